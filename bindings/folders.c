@@ -6,6 +6,7 @@
  * Files are unmapped when the last handle is closed, after all tablebases. */
 #define _GNU_SOURCE
 #include "szg.h"
+#include <dirent.h>
 #include <errno.h>
 #include <fcntl.h>
 #include <limits.h>
@@ -57,18 +58,24 @@ static int map_file(const char *path, struct mapping *mapping)
     return why;
 }
 
-/* Maps the file of a table in the first folder that has it. Returns 0 or an errno, ENOENT if none has it. */
-static int find_file(const char *folder, const szg_missing *missing, struct mapping *mapping)
+/* Sets `path` to that of a file in the first folder, and *folders to the others or NULL. Returns whether there is room for it. */
+static bool next_path(char path[PATH_MAX], const char **folders, const char *file)
 {
-    char path[PATH_MAX];
-    for (const char *end;; folder = end + 1) {
-        end = strchrnul(folder, ':');
-        int length = end - folder < PATH_MAX ? (int)(end - folder) : PATH_MAX;
-        size_t needed = (size_t)snprintf(path, sizeof path, "%.*s/%s.%s", length, folder, missing->name, missing->dtz ? "rtbz" : "rtbw");
-        int why = needed < sizeof path ? map_file(path, mapping) : ENAMETOOLONG;
-        if (why != ENOENT || *end == '\0')
-            return why;
-    }
+    const char *folder = *folders;
+    size_t length = strcspn(folder, ":");
+    *folders = folder[length] == ':' ? folder + length + 1 : NULL;
+    return length < PATH_MAX && snprintf(path, PATH_MAX, "%.*s/%s", (int)length, folder, file) < PATH_MAX;
+}
+
+/* Maps the file of a table in the first folder that has it. Returns 0 or an errno, ENOENT if none has it. */
+static int find_file(const char *folders, const szg_missing *missing, struct mapping *mapping)
+{
+    char path[PATH_MAX], file[16];
+    int why = ENOENT;
+    snprintf(file, sizeof file, "%s.%s", missing->name, missing->dtz ? "rtbz" : "rtbw");
+    while (why == ENOENT && folders != NULL)
+        why = next_path(path, &folders, file) ? map_file(path, mapping) : ENAMETOOLONG;
+    return why;
 }
 
 /* Adds the table of a file, unless its span bits exceed those that are wanted. */
@@ -94,25 +101,21 @@ static uint32_t add_file(struct opened *opened, const szg_missing *missing, cons
 /* Finds, maps and adds the file of a table, under the lock. */
 static uint32_t add_table(struct opened *opened, szg_missing *missing)
 {
-    struct mapping *mapping = malloc(sizeof *mapping);
-    if (mapping == NULL)
-        return SZG_MEMORY;
-    int why = find_file(opened->paths, missing, mapping);
-    if (why != 0) {
-        free(mapping);
-        errno = why;
+    struct mapping file = {.next = opened->mappings};
+    errno = find_file(opened->paths, missing, &file);
+    if (errno != 0)
         return SZG_MISSING;
-    }
     szg_answer answer = {0, 0};
-    uint32_t status = add_file(opened, missing, mapping, &answer);
+    struct mapping *mapping = malloc(sizeof *mapping);
+    uint32_t status = mapping == NULL ? SZG_MEMORY : add_file(opened, missing, &file, &answer);
     if (status != SZG_DONE) {
         missing->block = answer.reason;
         missing->offset = answer.place;
-        munmap(mapping->bytes, mapping->length + 1);
+        munmap(file.bytes, file.length + 1);
         free(mapping);
         return status;
     }
-    mapping->next = opened->mappings;
+    *mapping = file;
     opened->mappings = mapping;
     return SZG_DONE;
 }
@@ -207,43 +210,41 @@ void szg_close_folders(szg_folders *folders)
     free(opened);
 }
 
-uint32_t szg_board_men(const szg_board *board, szg_man *men, size_t *count)
+/* Whether a file of the last folder before `others` is a table's, by its name, and is in none before. Then *table is what it is. */
+static bool is_table(const char *folders, const char *others, const char *file, szg_table_name *table)
 {
-    const uint64_t kinds[] = {board->pawns, board->knights, board->bishops, board->rooks, board->queens, board->kings};
-    uint64_t of_colors = board->white | board->black, of_kinds = 0, again = board->white & board->black;
-    for (size_t i = 0; i < 6; i++) {
-        again |= of_kinds & kinds[i];
-        of_kinds |= kinds[i];
-    }
-    if (of_colors != of_kinds)
-        return SZG_MAN;
-    if (again != 0)
-        return SZG_SAME_SQUARE;
-    if (__builtin_popcountll(of_kinds) > SZG_MAX_MEN)
-        return SZG_MEN;
-    *count = 0;
-    for (size_t i = 0; i < 6; i++)
-        for (uint64_t left = kinds[i]; left != 0; left &= left - 1) {
-            uint8_t square = (uint8_t)__builtin_ctzll(left);
-            men[(*count)++] = (szg_man){(uint8_t)(SZG_PAWN + i), (board->black >> square & 1) != 0, square};
-        }
-    return SZG_DONE;
+    char path[PATH_MAX], kind[2];
+    int length, end;
+    szg_answer answer;
+    struct stat state;
+    if (sscanf(file, "%7[KQRBNPv]%n.rtb%1[wz]%n", table->name, &length, kind, &end) != 2 || file[end] != '\0' ||
+        szg_check(file, (size_t)length, false, (const uint8_t *)"", 0, &answer) == SZG_NAME)
+        return false;
+    table->dtz = kind[0] == 'z';
+    while (folders != others)
+        if (next_path(path, &folders, file) && stat(path, &state) == 0 && S_ISREG(state.st_mode))
+            return folders == others;
+    return false;
 }
 
-uint32_t szg_tablebase_wdl_of_fens(szg_tablebase *tablebase, const char *fens, size_t length, int8_t *classes, size_t count)
+size_t szg_folders_list(szg_folders *folders, szg_table_name *tables, size_t capacity, uint8_t *most_men)
 {
-    uint32_t first = SZG_DONE;
-    szg_position p;
-    szg_missing missing;
-    for (size_t i = 0, next; i < count; i++, fens += next, length -= next) {
-        const char *end = memchr(fens, '\n', length);
-        next = end == NULL ? length : (size_t)(end - fens) + 1;
-        classes[i] = SZG_NO_RESULT;
-        uint32_t status = szg_read_fen(fens, next - (end != NULL), &p);
-        if (status == SZG_DONE)
-            status = szg_tablebase_wdl(tablebase, p.men, p.count, p.mover, p.en_passant, &classes[i], &missing);
-        if (first == SZG_DONE)
-            first = status;
+    char path[PATH_MAX];
+    szg_table_name table;
+    size_t count = 0;
+    *most_men = 0;
+    for (const char *others = folders->opened->paths; others != NULL;) {
+        DIR *files = next_path(path, &others, "") ? opendir(path) : NULL;
+        for (struct dirent *file; files != NULL && (file = readdir(files)) != NULL;) {
+            if (!is_table(folders->opened->paths, others, file->d_name, &table))
+                continue;
+            if (count++ < capacity)
+                tables[count - 1] = table;
+            if (!table.dtz && strlen(table.name) > *most_men + 1u)
+                *most_men = (uint8_t)(strlen(table.name) - 1);
+        }
+        if (files != NULL)
+            closedir(files);
     }
-    return first;
+    return count;
 }

@@ -152,8 +152,9 @@ uint32_t szg_open(const char *name, size_t name_length, bool dtz, const uint8_t 
  * szg_share(&t, &t) closes t and returns SZG_CLOSED. */
 uint32_t szg_share(szg_table *table, szg_table *second);
 
-/* The stored value at an index of a part's side, which isn't always the position's: see szg_probe. In a WDL table it is the
- * class plus 2, in a DTZ table what szg_number takes. With another status than SZG_DONE *value stays. */
+/* The stored value at an index of a part's side, which isn't the position's result (szg_folders_wdl, szg_folders_dtz) if a
+ * capture, or in DTZ a pawn move, decides. In a WDL table it is the stored class plus 2, in a DTZ table what szg_number takes.
+ * With another status than SZG_DONE *value stays. */
 uint32_t szg_get(szg_table *table, uint8_t part, uint8_t side, uint64_t index, uint16_t *value);
 
 /* The number of positions of a part's side. With another status than SZG_DONE *size stays. */
@@ -163,9 +164,10 @@ uint32_t szg_positions(szg_table *table, uint8_t part, uint8_t side, uint64_t *s
  * positions. With another status than SZG_DONE the list stays. */
 uint32_t szg_all(szg_table *table, uint8_t part, uint8_t side, uint16_t *values, size_t count);
 
-/* The number of plies of a stored DTZ value in a class (2 win, 1 cursed win, -1 blessed loss, -2 loss): see szg_probe for what
- * it counts. SZG_RANGE: a WDL table, a part that does not exist, or a class below -2 or above 2. SZG_DRAW and
- * SZG_OUTSIDE_MAP: there is no number. With another status than SZG_DONE *number stays. */
+/* The stored number of a DTZ value, which isn't the position's DTZ (szg_folders_dtz) if a capture or pawn move decides: plies, in a
+ * class (2 win, 1 cursed win, -1 blessed loss, -2 loss). See szg_probe for what it counts. SZG_RANGE: a WDL table, a part that
+ * does not exist, or a class below -2 or above 2. SZG_DRAW and SZG_OUTSIDE_MAP: there is no number. With another status than
+ * SZG_DONE *number stays. */
 uint32_t szg_number(szg_table *table, uint8_t part, int8_t class_of_position, uint16_t value, uint32_t *number);
 
 /* ---- Placements: `men` points to `count` men in any order, `mover` (enum szg_color) is the side to move. The men are
@@ -207,9 +209,9 @@ typedef struct szg_board {
     uint64_t pawns;
 } szg_board;
 
-/* The men of a board, for the other calls. `men` is a list of SZG_MAX_MEN items, and *count their number. SZG_MAN: a square has a
- * color without a kind, or a kind without a color. SZG_SAME_SQUARE: it has two. SZG_MEN: there are more than SZG_MAX_MEN men. Then the
- * list and *count stay. */
+/* The men of a board, in the order of their squares, for the other calls. `men` is a list of SZG_MAX_MEN items, and *count their
+ * number. SZG_MAN: a square has a color without a kind, or a kind without a color. SZG_SAME_SQUARE: it has two. SZG_MEN: there are
+ * more than SZG_MAX_MEN men. Then the list and *count stay. */
 uint32_t szg_board_men(const szg_board *board, szg_man *men, size_t *count);
 
 /* The placement of an index of a part's side: the inverse of szg_index. Writes the men to the beginning of `men`, a list of
@@ -221,14 +223,14 @@ uint32_t szg_board_men(const szg_board *board, szg_man *men, size_t *count);
 uint32_t szg_placement(szg_table *table, uint8_t part, uint8_t side, uint64_t index, szg_man *men, size_t capacity,
                        size_t *count, uint8_t *mover);
 
-/* Returns what the table stores for a placement, which isn't the result of the position if a capture (WDL), or a capture or
- * pawn move (DTZ), decides: then a table may hold whatever value makes the file small. En passant and the fifty-move counter
- * aren't known to a table either. szg_folders_wdl and szg_folders_dtz return results. A WDL table stores the class for the
- * side to move (2 win, 1 cursed win, 0 draw, -1 blessed loss, -2 loss) and ignores `class_of_position`. A DTZ table stores a
- * number n of plies without sign for this class: it counts the plies before the zeroing one (a capture, a pawn move or
- * mate), in the classes 1 and -1 from the 101st on. So DTZ is n + 1 for a win, n + 101 for a cursed win, -(n + 101) for a
- * blessed loss, -(n + 1) for a loss. What the table counts in moves is doubled, and the distance may be one ply more. In a
- * DTZ table SZG_RANGE means a class below -2 or above 2. With another status than SZG_DONE *outcome stays. */
+/* Returns what the table stores for a placement, which isn't the position's result (szg_folders_wdl, szg_folders_dtz) if a
+ * capture (WDL), or a capture or pawn move (DTZ), decides: then a table may hold whatever value makes the file small. En passant
+ * and the fifty-move counter aren't known to a table either. A WDL table stores the class for the side to move (2 win, 1 cursed
+ * win, 0 draw, -1 blessed loss, -2 loss) and ignores `class_of_position`. A DTZ table stores a number n of plies without sign for
+ * this class: it counts the plies before the zeroing one (a capture, a pawn move or mate), in the classes 1 and -1 from the 101st
+ * on. So, unless a capture or pawn move decides, DTZ is n + 1 for a win, n + 101 for a cursed win, -(n + 101) for a blessed loss,
+ * -(n + 1) for a loss. What the table counts in moves is doubled, and the distance may be one ply more. In a DTZ table SZG_RANGE
+ * means a class below -2 or above 2. With another status than SZG_DONE *outcome stays. */
 uint32_t szg_probe(szg_table *table, const szg_man *men, size_t count, uint8_t mover, int8_t class_of_position,
                    int64_t *outcome);
 
@@ -320,7 +322,7 @@ uint32_t szg_front_placement(szg_front *front, uint8_t part, uint8_t side, uint6
 uint32_t szg_front_probe(szg_front *front, const uint8_t *bytes, size_t length, const szg_man *men, size_t count,
                          uint8_t mover, int8_t class_of_position, int64_t *outcome, szg_bad_block *bad);
 
-/* The number of a DTZ value in a class: see szg_number. With another status than SZG_DONE *number stays. */
+/* The stored number of a DTZ value in a class: see szg_number. With another status than SZG_DONE *number stays. */
 uint32_t szg_front_number(szg_front *front, uint8_t part, int8_t class_of_position, uint16_t value,
                           uint32_t *number);
 
@@ -404,8 +406,7 @@ uint32_t szg_tablebase_wdl(szg_tablebase *tablebase, const szg_man *men, size_t 
 
 /* The classes of the positions of many FENs, in one call: `fens` has one in each line, with a line feed between two lines. Writes
  * to `classes`, for each of the first `count` lines, the class by szg_read_fen and szg_tablebase_wdl, or SZG_NO_RESULT if one of
- * them has another status than SZG_DONE. Lines that aren't there are empty. Returns the first such status, or SZG_DONE. This call
- * is C over the two, and is tested, not proved. */
+ * them has another status than SZG_DONE. Lines that aren't there are empty. Returns the first such status, or SZG_DONE. */
 uint32_t szg_tablebase_wdl_of_fens(szg_tablebase *tablebase, const char *fens, size_t length, int8_t *classes, size_t count);
 
 /* The class of a position, and its DTZ in plies: to the next capture or pawn move that keeps the class, or to mate; 100 more for
@@ -463,6 +464,18 @@ void szg_limit_folders(szg_folders *folders, uint8_t bits);
 
 /* Makes *second a second handle of the same tables, for another thread. A file is mapped, and kept in memory, once for all. */
 uint32_t szg_share_folders(szg_folders *folders, szg_folders **second);
+
+/* The name of a table's material, as "KQvKR", and a zero byte; and whether it is a DTZ table. */
+typedef struct szg_table_name {
+    char name[8];
+    bool dtz;
+} szg_table_name;
+
+/* The tables that the folders have now, by the names of their files, such as KQvKR.rtbw: no file is opened. Writes as many as
+ * there is room for to the beginning of `tables`, a list of `capacity` items, in no order, and the most men of a WDL table to
+ * *most_men, 0 if there is none. Returns the number of tables: the list is cut if this is above the capacity. A table that several
+ * folders have counts once. A folder that can't be read has none. */
+size_t szg_folders_list(szg_folders *folders, szg_table_name *tables, size_t capacity, uint8_t *most_men);
 
 /* The class of a position, as szg_tablebase_wdl. SZG_MISSING: the file of missing->name can't be opened or mapped, and errno says
  * why: ENOENT if no folder has it. SZG_REFUSED: it is no table, missing->offset is the offset of the check that fails, and

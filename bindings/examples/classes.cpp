@@ -1,4 +1,4 @@
-// Counts the classes of a WDL table, by the side to move: classes KQvK.rtbw
+// Counts the classes that a WDL table stores, not results (results.c) if captures decide, by the side to move: classes KQvK.rtbw
 // A line for each part and side: their letter and number, then the numbers of losses, blessed losses, draws, cursed wins,
 // wins and other values. The exit status is 0, or 64 for a bad command line, 66 if the file cannot be read or is refused.
 #include "szg.h"

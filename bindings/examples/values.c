@@ -1,5 +1,5 @@
-/* Prints what a table stores for a placement: values FILE NAME wdl|dtz w|b MAN..,
- * as values KQvK.rtbw KQvK wdl w Ke8 Qa1 kh1
+/* Prints what a table stores for a placement, which isn't the result (results.c prints it) if a capture or pawn move decides:
+ * values FILE NAME wdl|dtz w|b MAN.., as values KQvK.rtbw KQvK wdl w Ke8 Qa1 kh1
  * For a WDL table it is the stored class (2, 1, 0, -1, -2), for a DTZ table the number of a win; szg_probe says what they mean.
  * The status is that of the call that refuses, 64 for a fault of words, 66 where the file cannot be read. */
 #include "szg.h"

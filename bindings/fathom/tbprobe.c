@@ -5,10 +5,8 @@
 #define _POSIX_C_SOURCE 200809L
 #include "tbprobe.h"
 #include "szg.h"
-#include <dirent.h>
 #include <pthread.h>
 #include <stdlib.h>
-#include <string.h>
 
 unsigned TB_LARGEST = 0;
 
@@ -77,42 +75,19 @@ void tb_free(void)
     pthread_mutex_unlock(&lock);
 }
 
-/* The number of men of the WDL table with this name, such as KQvKR.rtbw; 0 for another file. */
-static unsigned men_of(const char *name)
-{
-    size_t first = strspn(name, "KQRBNP");
-    if (name[0] != 'K' || name[first] != 'v' || name[first + 1] != 'K')
-        return 0;
-    size_t second = strspn(name + first + 1, "KQRBNP");
-    bool is_found = first + second <= SZG_MAX_MEN && strcmp(name + first + 1 + second, ".rtbw") == 0;
-    return is_found ? (unsigned)(first + second) : 0;
-}
-
-/* Raises TB_LARGEST to the most men of a table in this folder. */
-static void look_into(const char *folder)
-{
-    DIR *names = opendir(folder);
-    if (names == NULL)
-        return;
-    for (struct dirent *entry; (entry = readdir(names)) != NULL;)
-        if (men_of(entry->d_name) > TB_LARGEST)
-            TB_LARGEST = men_of(entry->d_name);
-    closedir(names);
-}
-
 bool tb_init(const char *path)
 {
     tb_free();
     if (*path == '\0')
         return true;
-    char *folders = strdup(path), *rest = folders;
+    uint8_t most_men = 0;
     pthread_mutex_lock(&lock);
     has_key = has_key || pthread_key_create(&key, close_handle) == 0;
-    bool is_open = folders != NULL && has_key && szg_open_folders(path, &tables) == SZG_DONE;
-    for (char *folder; is_open && (folder = strtok_r(rest, ":", &rest)) != NULL;)
-        look_into(folder);
+    bool is_open = has_key && szg_open_folders(path, &tables) == SZG_DONE;
+    if (is_open)
+        szg_folders_list(tables, NULL, 0, &most_men);
+    TB_LARGEST = most_men;
     pthread_mutex_unlock(&lock);
-    free(folders);
     return is_open;
 }
 

@@ -142,25 +142,45 @@ static void fens(void) {
 
 /* The classes of lines of FENs: no table or another text is no result, lines that are not there too, and a list ends where it ends. */
 static void lines(szg_tablebase *tablebase, int8_t class, uint32_t first) {
-    static const char texts[] = "4k3/8/8/8/8/3Q4/8/4K3 w - - 0 1\n4k3/8/8/8/8/8/8/4K3 b - - 99 1\n\nx\n4k3/8/8/8/8/8/8/4K3 w - -";
-    const int8_t due[] = {class, 0, SZG_NO_RESULT, SZG_NO_RESULT, 0, SZG_NO_RESULT, 9};
-    int8_t classes[] = {9, 9, 9, 9, 9, 9, 9};
+    static const char texts[] = "4k3/8/8/8/8/3Q4/8/4K3 w - - 0 1\n4k3/8/8/8/8/8/8/4K3 b - - 99 1\n\nx\n4k3/8/8/8/8/8/8/4K3 w - -\r\n4k3/8/8/8/8/8/8/4K3 w - -";
+    const int8_t due[] = {class, 0, SZG_NO_RESULT, SZG_NO_RESULT, SZG_NO_RESULT, 0, SZG_NO_RESULT, 9};
+    int8_t classes[] = {9, 9, 9, 9, 9, 9, 9, 9};
     want("two lines", szg_tablebase_wdl_of_fens(tablebase, texts, sizeof texts - 1, classes, 2), first);
     want("third line", classes[2], 9);
-    want("all lines", szg_tablebase_wdl_of_fens(tablebase, texts, sizeof texts - 1, classes, 6), first == SZG_DONE ? SZG_MAN : first);
+    want("all lines", szg_tablebase_wdl_of_fens(tablebase, texts, sizeof texts - 1, classes, 7), first == SZG_DONE ? SZG_MAN : first);
     want("classes", memcmp(classes, due, sizeof due), 0);
-    want("no line", szg_tablebase_wdl_of_fens(tablebase, texts, 0, classes + 6, 0), SZG_DONE);
-    want("after the list", classes[6], 9);
+    want("no line", szg_tablebase_wdl_of_fens(tablebase, texts, 0, classes + 7, 0), SZG_DONE);
+    want("after the list", classes[7], 9);
+}
+
+/* The three probes of a tablebase have this status, and name no table. */
+static void names_nothing(szg_tablebase *tablebase, const szg_man *men, uint8_t passed, uint32_t due) {
+    szg_missing missing, before;
+    int8_t class;
+    szg_distance distance;
+    szg_move moves[SZG_MAX_MOVES];
+    size_t count;
+    memset(&missing, 9, sizeof missing), memset(&before, 9, sizeof before);
+    want("class", szg_tablebase_wdl(tablebase, men, 3, SZG_WHITE, passed, &class, &missing), due);
+    want("nothing is missing for the class", memcmp(&missing, &before, sizeof missing), 0);
+    want("distance", szg_tablebase_dtz(tablebase, men, 3, SZG_WHITE, passed, 0, &distance, &missing), due);
+    want("nothing is missing for the distance", memcmp(&missing, &before, sizeof missing), 0);
+    want("moves", szg_tablebase_moves(tablebase, men, 3, SZG_WHITE, passed, 0, moves, SZG_MAX_MOVES, &count, &missing), due);
+    want("nothing is missing for the moves", memcmp(&missing, &before, sizeof missing), 0);
+    if (due == SZG_DONE) want("a short list", szg_tablebase_moves(tablebase, men, 3, SZG_WHITE, passed, 0, moves, 1, &count, &missing), SZG_RANGE);
+    want("nothing is missing for a short list", memcmp(&missing, &before, sizeof missing), 0);
 }
 
 /* A tablebase without the table, with it, and with its blocks damaged. */
-static void tablebases(const char *data) {
+static void tablebases(const char *data, const char *samples) {
     szg_tablebase tablebase = SZG_NO_TABLEBASE;
     szg_missing missing = {"", true, 7, 7};
     int8_t class = 9;
     szg_man men[] = {man(SZG_KING, SZG_WHITE, 4), man(SZG_QUEEN, SZG_WHITE, 20), man(SZG_KING, SZG_BLACK, 60)};
     want("check", szg_tablebase_wdl(&tablebase, men, 3, SZG_WHITE, SZG_NO_SQUARE, &class, &missing), SZG_IN_CHECK);
+    names_nothing(&tablebase, men, SZG_NO_SQUARE, SZG_IN_CHECK);
     men[1].square = 19;
+    names_nothing(&tablebase, men, 44, SZG_EN_PASSANT);
     want("en passant", szg_tablebase_wdl(&tablebase, men, 3, SZG_WHITE, 44, &class, &missing), SZG_EN_PASSANT);
     want("missing", szg_tablebase_wdl(&tablebase, men, 3, SZG_WHITE, SZG_NO_SQUARE, &class, &missing), SZG_MISSING);
     want("its name", strcmp(missing.name, "KQvK") == 0, 1);
@@ -174,6 +194,42 @@ static void tablebases(const char *data) {
     want("bad block", szg_tablebase_wdl(&tablebase, men, 3, SZG_WHITE, SZG_NO_SQUARE, &class, &missing), SZG_BAD_BLOCK);
     want("its number", missing.block < 2, 1);
     want("its offset", (int64_t)missing.offset, 256 + 32 * (int64_t)missing.block);
+    szg_close_tablebase(&tablebase);
+    /* two of the tables of another folder, in memory at once */
+    static uint8_t wdl[1 << 16];
+    load(samples, "KQvK.rtbw", "KQvK", false);
+    memcpy(wdl, bytes, length);
+    want("add", szg_tablebase_add(&tablebase, "KQvK", 4, false, wdl, length, &answer), SZG_DONE);
+    load(samples, "KQvK.rtbz", "KQvK", true);
+    want("add", szg_tablebase_add(&tablebase, OF_FILE, &answer), SZG_DONE);
+    names_nothing(&tablebase, men, SZG_NO_SQUARE, SZG_DONE);
+    szg_close_tablebase(&tablebase);
+}
+
+/* A class needs the table of the men and of those that captures leave, a distance those that moves lead to, and no others. */
+static void needs(const char *samples) {
+    szg_tablebase tablebase = SZG_NO_TABLEBASE;
+    szg_missing missing = {"", true, 7, 7};
+    szg_distance distance;
+    szg_man men[] = {man(SZG_KING, SZG_WHITE, 4), man(SZG_PAWN, SZG_WHITE, 40), man(SZG_KING, SZG_BLACK, 60)};
+    int8_t class;
+    static uint8_t wdl[1 << 16];
+    load(samples, "KPvK.rtbw", "KPvK", false);
+    memcpy(wdl, bytes, length);
+    want("add", szg_tablebase_add(&tablebase, "KPvK", 4, false, wdl, length, &answer), SZG_DONE);
+    for (uint8_t square = 8; square < 56; square++) {
+        men[1].square = square;
+        /* on d7 and f7 the pawn attacks Black's king */
+        if (square != 51 && square != 53) want("a class by its own table", szg_tablebase_wdl(&tablebase, men, 3, SZG_WHITE, SZG_NO_SQUARE, &class, &missing), SZG_DONE);
+        want("nothing is missing", missing.name[0], 0);
+    }
+    load(samples, "KPvK.rtbz", "KPvK", true);
+    want("add", szg_tablebase_add(&tablebase, OF_FILE, &answer), SZG_DONE);
+    for (men[1].square = 8; men[1].square < 48; men[1].square++)
+        want("a distance without promotions", szg_tablebase_dtz(&tablebase, men, 3, SZG_WHITE, SZG_NO_SQUARE, 0, &distance, &missing), SZG_DONE);
+    want("a promotion", szg_tablebase_dtz(&tablebase, men, 3, SZG_WHITE, SZG_NO_SQUARE, 0, &distance, &missing), SZG_MISSING);
+    want("its table", strcmp(missing.name, "KQvK"), 0);
+    want("of WDL", missing.dtz, 0);
     szg_close_tablebase(&tablebase);
 }
 
@@ -231,6 +287,7 @@ static void boards(void) {
     board.white ^= 16, board_is(&board, SZG_MEN);
     board.white ^= 16, board.rooks ^= 16 | 2, board_is(&board, SZG_SAME_SQUARE);
     board.rooks ^= 2, board.black ^= 8, board_is(&board, SZG_SAME_SQUARE);
+    board.white ^= 2, board_is(&board, SZG_MAN);
 }
 
 int main(int count, char **words) {
@@ -239,7 +296,8 @@ int main(int count, char **words) {
     kinds(words[1]);
     fields(words[1]);
     fens();
-    tablebases(words[1]);
+    tablebases(words[1], words[2]);
+    needs(words[2]);
     folders(words[2]);
     boards();
     let_go();

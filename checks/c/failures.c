@@ -20,7 +20,7 @@ static const struct { const char *name; int why; uint32_t status; } calls[CALLS]
     {"open", EMFILE, SZG_MISSING}, {"fstat", EIO, SZG_MISSING}, {"mmap", ENOMEM, SZG_MISSING}, {"malloc", ENOMEM, SZG_MEMORY},
     {"opendir", EMFILE, 0}, {"pthread_key_create", EAGAIN, 0}, {"pthread_setspecific", ENOMEM, 0}};
 static enum call chosen;
-static long made[CALLS], fails_at, held, mapped, files, refused;
+static long made[CALLS], fails_at, held, mapped, bytes_mapped, files, refused;
 static int failed;
 static char paths[4096];
 
@@ -58,18 +58,14 @@ int __wrap_close(int file) { return files--, errno = 0, __real_close(file); }
 int __wrap_fstat(int file, struct stat *state) { return fails(FSTAT) ? -1 : __real_fstat(file, state); }
 void *__wrap_mmap(void *at, size_t length, int protection, int flags, int file, off_t offset) {
     void *bytes = fails(MMAP) ? MAP_FAILED : __real_mmap(at, length, protection, flags, file, offset);
-    mapped += bytes != MAP_FAILED;
+    if (bytes != MAP_FAILED) mapped++, bytes_mapped += (long)length;
     return bytes;
 }
-int __wrap_munmap(void *at, size_t length) { return mapped--, __real_munmap(at, length); }
+int __wrap_munmap(void *at, size_t length) { return mapped--, bytes_mapped -= (long)length, __real_munmap(at, length); }
 static void *counted(void *block) { return held += block != NULL, block; }
 void *__wrap_malloc(size_t size) { return fails(MALLOC) ? NULL : counted(__real_malloc(size)); }
 void *__wrap_calloc(size_t count, size_t size) { return fails(MALLOC) ? NULL : counted(__real_calloc(count, size)); }
 void __wrap_free(void *block) { held -= block != NULL, __real_free(block); }
-char *__wrap_strdup(const char *text) {
-    char *copy = __wrap_malloc(strlen(text) + 1);
-    return copy == NULL ? NULL : strcpy(copy, text);
-}
 DIR *__wrap_opendir(const char *name) {
     DIR *names = fails(OPENDIR) ? NULL : __real_opendir(name);
     files += names != NULL;
@@ -94,7 +90,7 @@ static bool is_done(uint32_t status) {
 
 static void use_folders(void) {
     static const szg_man men[] = {{SZG_KING, SZG_WHITE, 45}, {SZG_QUEEN, SZG_WHITE, 6}, {SZG_KING, SZG_BLACK, 63}};
-    szg_folders *const none = (szg_folders *)paths, *folders = none, *second = none;
+    szg_folders *const none = (szg_folders *)paths, *folders = none, *second = none, *third = none;
     int8_t class = 9;
     szg_distance distance = {9, 9};
     szg_move moves[SZG_MAX_MOVES];
@@ -106,8 +102,11 @@ static void use_folders(void) {
     while (!is_done(szg_folders_wdl(folders, men, 3, SZG_WHITE, SZG_NO_SQUARE, &class, &missing))) want("class", class, 9);
     while (!is_done(szg_folders_dtz(second, men, 3, SZG_WHITE, SZG_NO_SQUARE, 0, &distance, &missing))) want("distance", distance.class_of_position, 9);
     while (!is_done(szg_folders_moves(folders, men, 3, SZG_WHITE, SZG_NO_SQUARE, 0, moves, SZG_MAX_MOVES, &count, &missing))) want("count", (long)count, 99);
+    /* a later handle has the tables that are open */
+    while (!is_done(szg_share_folders(folders, &third))) want("third", third == none, 1);
+    while (!is_done(szg_folders_wdl(third, men, 3, SZG_WHITE, SZG_NO_SQUARE, &class, &missing))) continue;
     want("class", class, 2), want("distance", distance.dtz, 1), want("mate", moves[0].mate, true), want("mappings", mapped, 2);
-    szg_close_folders(folders), szg_close_folders(second);
+    szg_close_folders(folders), szg_close_folders(second), szg_close_folders(third);
 }
 
 /* ---- the calls of Fathom's interface, by two threads: one ends with its tables open, the other closes them */
@@ -134,13 +133,13 @@ static void in_thread(void) {
 static long tried, unnoted;
 
 static void run(void (*use)(void), enum call call, long number) {
-    chosen = call, fails_at = number, refused = held = mapped = files = 0;
+    chosen = call, fails_at = number, refused = held = mapped = bytes_mapped = files = 0;
     memset(made, 0, sizeof made);
     use();
     /* a call does without memory for the bits that say which blocks have passed */
     if (call == MALLOC && refused == 0) unnoted++;
     else want("calls refused", refused, number > 0);
-    want("blocks left", held, 0), want("mappings left", mapped, 0), want("files left", files, 0);
+    want("blocks left", held, 0), want("mappings left", mapped, 0), want("bytes left mapped", bytes_mapped, 0), want("files left", files, 0);
 }
 
 static void run_all(void (*use)(void)) {

@@ -46,13 +46,35 @@ static const char *probe(szg_folders *mine, unsigned *seed, uint64_t *sum) {
 static void *run(void *number) {
     unsigned seed = 7;
     szg_folders *mine;
+    uint8_t most_men;
     const char *why = szg_share_folders(folders, &mine) == SZG_DONE ? NULL : "share";
+    if (why == NULL && (szg_folders_list(mine, NULL, 0, &most_men) != 10 || most_men != 3)) why = "list";
     for (int i = 0; i < positions && why == NULL; i++) {
         szg_limit_folders(mine, 15);
         why = probe(mine, &seed, (uint64_t *)number);
     }
     szg_close_folders(mine);
     return (void *)(uintptr_t)why;
+}
+
+/* The folders have these tables: some of three men and KQRvKBN, each once, and a WDL table of `men` men or none. */
+static void listed(const char *paths, size_t due, uint8_t men) {
+    szg_table_name all[16] = {{"", false}};
+    szg_folders *some;
+    uint8_t most_men = 9;
+    want("open", szg_open_folders(paths, &some), SZG_DONE);
+    want(paths, (int64_t)szg_folders_list(some, NULL, 0, &most_men), (int64_t)due);
+    want("most men", most_men, men);
+    for (size_t room = 0; room <= due; room++) {
+        memset(all, 0, sizeof all);
+        want("tables", (int64_t)szg_folders_list(some, all, room, &most_men), (int64_t)due);
+        for (size_t i = 0; i < room; i++) {
+            want("a name", strcmp(all[i].name, "KQRvKBN") == 0 || (strlen(all[i].name) == 4 && all[i].name[0] == 'K' && all[i].name[2] == 'v' && strchr("QRBNP", all[i].name[1]) != NULL), 1);
+            for (size_t j = 0; j < i; j++) want("another table", strcmp(all[i].name, all[j].name) != 0 || all[i].dtz != all[j].dtz, 1);
+        }
+        want("no more", all[room].name[0], 0);
+    }
+    szg_close_folders(some);
 }
 
 /* The status of a probe, and errno or the offset of the refusal. */
@@ -98,12 +120,15 @@ int main(int count, char **words) {
     snprintf(folder_path, sizeof folder_path, "%s/KQvK.rtbz", made);
     if (mkfifo(file_path, 0600) != 0 || mkdir(folder_path, 0700) != 0) return perror(made), 2;
     refused(made, SZG_MISSING, ENOENT);
-    /* none of these is the name of a WDL table of three to six men, and a path or none may be given often */
-    static const char *const others[] = {"KQRBNPvK.rtbw", "KQRBvK.rtbz", "KQRBvK.rtbw.old", "KQRBxK.rtbw", "KQRBvQ.rtbw"};
+    /* none of these is the name of a table of three to six men, and a path or none may be given often */
+    static const char *const others[] = {"KQRBNPvK.rtbw", "KQRBvK.rtbw.old", "KQRBxK.rtbw", "KQRBvQ.rtbw", "KRvKQ.rtbz"};
     for (size_t i = 0; i < sizeof others / sizeof *others; i++) {
         snprintf(paths, sizeof paths, "%s/%s", made, others[i]);
-        if (mkdir(paths, 0700) != 0) return perror(paths), 2;
+        FILE *named = fopen(paths, "w");
+        if (named == NULL || fclose(named) != 0) return perror(paths), 2;
     }
+    snprintf(paths, sizeof paths, "%s:%s::/nowhere:%s", made, words[1], words[1]);
+    listed(made, 0, 0), listed("", 0, 0), listed("/nowhere", 0, 0), listed(words[1], 10, 3), listed(paths, 10, 3);
     for (int i = 0; i < 3000; i++) want("no tables", tb_init(i % 2 ? "" : "/nowhere") && TB_LARGEST == 0, true);
     snprintf(paths, sizeof paths, "/nowhere:%s:%s", made, words[1]);
     want("open", szg_open_folders(paths, &folders), SZG_DONE);
@@ -137,12 +162,26 @@ int main(int count, char **words) {
         FILE *file = fopen(file_path, "w");
         if (file == NULL || fwrite("\x71\xe8", 1, (size_t)bytes, file) != (size_t)bytes || fclose(file) != 0) return perror(file_path), 2;
         refused(made, SZG_REFUSED, bytes);
+        listed(made, 1, 3);
         /* the first folder that has the file counts */
         snprintf(paths, sizeof paths, "%s:%s", made, words[1]);
         refused(paths, SZG_REFUSED, bytes);
     }
+    /* the most men are those of the WDL tables, in whichever folder */
+    snprintf(paths, sizeof paths, "%s/KQRvKBN.rtbz", made);
+    FILE *six = fopen(paths, "w");
+    if (six == NULL || fclose(six) != 0) return perror(paths), 2;
+    listed(made, 2, 3);
+    snprintf(file_path, sizeof file_path, "%s/KQRvKBN.rtbw", made);
+    if (rename(paths, file_path) != 0) return perror(file_path), 2;
+    snprintf(paths, sizeof paths, "%s:%s", made, words[1]);
+    listed(made, 2, 6), listed(paths, 11, 6);
+    want("by Fathom's interface", tb_init(paths) && TB_LARGEST == 6, true);
+    tb_free();
+    unlink(file_path);
+    snprintf(file_path, sizeof file_path, "%s/KQvK.rtbw", made);
     unlink(file_path), rmdir(folder_path);
-    for (size_t i = 0; i < sizeof others / sizeof *others; i++) snprintf(paths, sizeof paths, "%s/%s", made, others[i]), rmdir(paths);
+    for (size_t i = 0; i < sizeof others / sizeof *others; i++) snprintf(paths, sizeof paths, "%s/%s", made, others[i]), unlink(paths);
     rmdir(made);
     return ended();
 }

@@ -13,6 +13,10 @@ int LLVMFuzzerTestOneInput(const uint8_t *input, size_t length);
 enum { FILES = 10, POSITIONS = 8, MEN = 4, BYTES = 8 + MEN, LONGEST = 1 << 20 };
 static const char *const names[FILES / 2] = {"KBvK", "KNvK", "KPvK", "KQvK", "KRvK"};
 static struct { uint8_t *bytes; size_t length; } files[FILES];
+/* The library isn't compiled for libFuzzer: instead each kind of answer counts as code that ran. */
+enum { KINDS = 64 };
+__attribute__((section("__libfuzzer_extra_counters"))) static uint8_t seen[8 * KINDS];
+static void see(size_t what, uint64_t kind) { seen[KINDS * what + (kind < KINDS ? kind : KINDS - 1)]++; }
 
 static void require(int is_so, const char *what) {
     if (!is_so) { fprintf(stderr, "guided_tablebase: %s\n", what); abort(); }
@@ -41,6 +45,23 @@ static int is_told(uint32_t status) {
     }
 }
 
+static int names_table(uint32_t status) {
+    return status == SZG_MISSING || status == SZG_BAD_BLOCK || status == SZG_CHANGED || status == SZG_NO_CLASS ||
+           (SZG_OTHER_MATERIAL <= status && status <= SZG_WRONG_SIDE);
+}
+
+/* Of *missing, whose bytes were 0, no more is written than the status says. */
+static void require_missing(uint32_t status, szg_missing *missing) {
+    static const szg_missing none;
+    if (names_table(status)) {
+        require(missing->name[0] == 'K' && strlen(missing->name) < sizeof missing->name, "the name of a table");
+        require(status == SZG_BAD_BLOCK || (missing->block == 0 && missing->offset == 0), "a block without a cause");
+    } else {
+        require(!memcmp(missing, &none, sizeof none), "a missing table without a cause");
+    }
+    memset(missing, 0, sizeof *missing);
+}
+
 /* What the three calls return for a position; all bytes that they don't write are 0. */
 struct answers {
     uint32_t wdl_status, dtz_status, moves_status;
@@ -56,6 +77,7 @@ static void ask(szg_tablebase *tablebase, const uint8_t *from, struct answers *a
     szg_man men[MEN] = {{.kind = SZG_KING}, {.kind = SZG_KING, .color = SZG_BLACK}, {.kind = kinds[from[5] % 5], .color = from[5] / 5 % 2},
                         {.kind = 1 + from[6] % 5, .color = from[6] / 5 % 2}};
     szg_missing missing;
+    memset(&missing, 0, sizeof missing);
     size_t count = from[0] < 220 ? 3 : 2 + from[0] % 3;
     uint8_t mover = from[1] < 250 ? from[1] % 2 : from[1], passed = from[2] < 200 ? SZG_NO_SQUARE : from[2] % 70;
     uint32_t counter = from[3] > 250 ? UINT32_MAX - from[4] : from[4];
@@ -63,12 +85,17 @@ static void ask(szg_tablebase *tablebase, const uint8_t *from, struct answers *a
     if (from[7] > 240) men[from[7] % MEN].kind = from[5] % 9, men[from[7] % MEN].color = from[6] % 3;
     memset(a, 0, sizeof *a);
     a->wdl_status = szg_tablebase_wdl(tablebase, men, count, mover, passed, &a->class_of_position, &missing);
+    require_missing(a->wdl_status, &missing);
     a->dtz_status = szg_tablebase_dtz(tablebase, men, count, mover, passed, counter, &a->distance, &missing);
+    require_missing(a->dtz_status, &missing);
     a->moves_status = szg_tablebase_moves(tablebase, men, count, mover, passed, counter, a->moves, SZG_MAX_MOVES, &a->move_count, &missing);
+    require_missing(a->moves_status, &missing);
 }
 
 static void examine(const struct answers *a) {
     static const struct answers none;
+    see(0, a->wdl_status), see(1, a->dtz_status), see(2, a->moves_status), see(3, (uint64_t)a->class_of_position + 2);
+    see(4, (uint64_t)llabs(a->distance.dtz)), see(5, a->move_count);
     require(is_told(a->wdl_status) && is_told(a->dtz_status) && is_told(a->moves_status), "another status");
     require(a->wdl_status != SZG_CONTRADICTION, "a contradiction without numbers");
     require(a->wdl_status == SZG_DONE ? abs(a->class_of_position) <= 2 : a->class_of_position == 0, "the class");
@@ -100,6 +127,7 @@ int LLVMFuzzerTestOneInput(const uint8_t *input, size_t length) {
         uint32_t status = szg_tablebase_add(&tablebase, names[i / 2], strlen(names[i / 2]), i % 2,
                                             is_replaced ? input + used : files[i].bytes, is_replaced ? length - used : files[i].length, &answer);
         require(status == SZG_DONE || (is_replaced && status == SZG_REFUSED), "a table is refused");
+        if (status == SZG_REFUSED) see(6, answer.reason), see(7, answer.place / 4);
     }
     for (size_t i = 0; i < positions; i++) {
         ask(&tablebase, input + 2 + i * BYTES, &first);

@@ -83,8 +83,9 @@ def test_statuses_and_reasons_are_the_headers() -> None:
     assert [_library.reason_text(number) for number in (0, 19, 1 << 31)] == [_library.status_text(number) for number in (23, 256, 1 << 31)] == [""] * 3
 
 
-def test_a_text_longer_than_the_buffer_is_whole() -> None:
-    said = "x" * (2 * _library.TEXT_SIZE)
+@pytest.mark.parametrize("length", [_library.TEXT_SIZE - 1, _library.TEXT_SIZE, 2 * _library.TEXT_SIZE])
+def test_a_text_that_fills_the_buffer_is_whole(length: int) -> None:
+    said = "x" * length
 
     def write(text, capacity: int) -> int:
         text.value = said[:capacity - 1].encode()

@@ -259,7 +259,7 @@ def test_a_file_that_changes(tmp_path: Path) -> None:
 
 
 @pytest.mark.parametrize("position, reason", [
-    ("8/8/8/8/8/8/8/Q6k w", "Men"), ("K7/8/8/8/8/8/8/K6k w", "Men"), ("4K3/8/8/8/8/8/8/P6k w", "PawnRank"), ("7k/6Q1/5K2/8/8/8/8/8 w", "InCheck"),
+    ("8/8/8/8/8/8/8/Q6k w", "Men"), ("K7/8/8/8/8/8/8/K6k w", "Men"), ("8/8/8/8/8/8/PPPPP3/KK6 w", "Men"), ("4K3/8/8/8/8/8/8/P6k w", "PawnRank"), ("7k/6Q1/5K2/8/8/8/8/8 w", "InCheck"),
     ([(6, True, 0), (6, False, 63), (5, True, 63)], "SameSquare"), ([(6, True, 0), (6, False, 63), (7, True, 5)], "Man"),
     ([(6, True, 0), (6, False, 63), (5, True, 64)], "Man"), ([(6, True, 0), (6, False, 63), (5, True, 256)], "Man"), ([], "Men"),
 ])

@@ -5,6 +5,7 @@ import re
 import shutil
 import subprocess
 import sys
+import threading
 import urllib.error
 import urllib.request
 from pathlib import Path
@@ -16,6 +17,7 @@ import stand_in
 import szg
 from conftest import KNIGHT, PAIRED, ROOT
 from szg import server
+from table_writer import file_of
 
 PROMOTES = "8/1k2P3/8/8/8/8/8/K7 w - - 0 1"
 
@@ -157,16 +159,32 @@ def test_what_is_refused(address: str, path: str, status: int, said: str) -> Non
 def test_a_damaged_table_is_the_servers_fault(tmp_path: Path, name: str, data: Optional[bytes]) -> None:
     path = tmp_path / f"{name}.rtbw"
     path.write_bytes(data or b"")
-    with szg.open_tablebase(tmp_path) as tables, server.server(tables, port=0) as running:
+    with szg.open_tablebase(tmp_path) as tables:
         if data is None:
             path.unlink()
-        import threading
+        status, text = served(tables, f"7k/8/5K2/8/8/8/8/6{name[1]}1 w - - 0 1")
+    assert status == 500 and str(path) in text
+
+
+def served(tables: szg.Tablebase, fen: str) -> Tuple[int, str]:
+    """The status and the text of an answer from these tables."""
+    with server.server(tables, port=0) as running:
         thread = threading.Thread(target=running.serve_forever)
         thread.start()
-        status, _, text = got(f"http://127.0.0.1:{running.server_port}/", "standard?fen=" + quote(f"7k/8/5K2/8/8/8/8/6{name[1]}1 w - - 0 1"))
-        running.shutdown()
-        thread.join()
-    assert status == 500 and str(path) in text
+        try:
+            status, _, text = got(f"http://127.0.0.1:{running.server_port}/", "standard?fen=" + quote(fen))
+        finally:
+            running.shutdown()
+            thread.join()
+    return status, text
+
+
+def test_tables_that_contradict_each_other_are_the_servers_fault(tmp_path: Path) -> None:
+    """Black wins each position where he is to move, the DTZ table stores White to move, and no move of White's is won for Black."""
+    (tmp_path / "KNvK.rtbw").write_bytes(KNIGHT.data[:11] + b"\x02\x80\x04" + KNIGHT.data[14:])
+    (tmp_path / "KNvK.rtbz").write_bytes(file_of("d7660ca5 0100 06 22 0e 00", [b"\x80\x00"]))
+    with szg.open_tablebase(tmp_path) as tables:
+        assert served(tables, "7k/8/5K2/8/8/8/8/6N1 w - - 0 1") == (500, "the table has no entry: Contradiction")
 
 
 def test_the_words_of_the_server(monkeypatch: pytest.MonkeyPatch, tmp_path: Path) -> None:

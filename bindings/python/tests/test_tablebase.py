@@ -42,7 +42,8 @@ def test_missing_tables(folder: Path) -> None:
         for fen, reason in (("8/8/8/8/8/8/8/Q6k w", "Men"), ("K7/8/8/8/8/8/8/K6k w", "Men")):
             for words in ((tables.probe_wdl_table, fen), (tables.probe_dtz_table, fen, 2)):
                 assert untold(*words) == reason
-        assert untold(tables.probe_wdl_table, [(7, True, 0), (KING, True, 1), (KING, False, 60)], True) == "Man"
+        for kind in (0, 7):
+            assert untold(tables.probe_wdl_table, [(kind, True, 0), (KING, True, 1), (KING, False, 60)], True) == "Man"
         for wdl, reason in ((0, "Draw"), (-1, "OutsideMap")):
             assert untold(tables.probe_dtz_table, "4k3/8/8/8/8/8/P7/4K3 w", wdl) == reason
         for wdl in (3, -3):
@@ -167,6 +168,18 @@ def test_what_goes_wrong_between_calls(folder: Path, other: Path, monkeypatch: p
             assert not comes
             tables.close()
             assert not tables._current.tables
+
+
+def test_which_tables_were_added(folder: Path, other: Path) -> None:
+    added = [("KNvK", "wdl"), ("KPvK", "dtz"), ("KQvK", "wdl")]
+    with szg.open_tablebase(folder) as tables:
+        assert tables.tables == added and tables.most_men == 3
+        (other / "KQRBvKN.rtbw").touch()
+        assert tables.add_directory(folder) == 3 and tables.add_directory(other) == 2
+        assert tables.tables == sorted([*added, ("KQRBvKN", "wdl")]) and tables.most_men == 6
+    with szg.open_tablebase(folder, load_wdl=False) as tables:
+        assert tables.tables == [("KPvK", "dtz")] and tables.most_men == 0
+    assert is_closed(lambda: tables.tables) and is_closed(lambda: tables.most_men)
 
 
 def test_other_files_hide_no_folder(folder: Path) -> None:

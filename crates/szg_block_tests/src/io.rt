@@ -6,7 +6,8 @@ use std::alloc::Global;
 use std::io::{self, Error, ErrorKind, Read, Write};
 use std::process::Abort;
 use szg_io::{
-    Bytes, Counters, Cut, DeviceFault, Input, IoFault, Output, Std, give_whole, take_whole,
+    Bytes, Counters, Cut, DeviceFault, Input, IoFault, Output, ReadAhead, Std, give_whole,
+    take_whole,
 };
 
 const TEXT: &[u8] = b"rattles";
@@ -306,6 +307,48 @@ fn all_of_a_chunk_is_requested(rt: HostRuntime) {
     let mut cut = Cut::new(output, 5, 0, 0);
     check_given_once(&rt, &mut cut, TEXT, Ok(3));
     check_requests(&rt, cut.inner(), &[7, 4, 1, 5]);
+}
+
+/// Expected bytes are read ahead, at most 65,536 at once, and no others. A chunk with room for all that is expected is
+/// read directly.
+#[test]
+fn only_expected_bytes_are_read_ahead(rt: HostRuntime) {
+    let mut device = moves_three(rt.alloc());
+    let mut input = ReadAhead::new(rt.alloc(), &mut device);
+    for (expected, size, taken) in [
+        (None, 2, 2),
+        (Some(5), 2, 2),
+        (None, 7, 1),
+        (None, 1, 1),
+        (None, 4, 1),
+        (None, 4, 3),
+        (Some(6), 6, 3),
+        (Some(100_000), 1, 1),
+        (Some(2), 7, 2),
+        (None, 5, 3),
+    ] {
+        if let Some(bytes) = expected {
+            input.expect(bytes);
+        }
+        check_taken_once(&rt, &mut input, &mut [0; 7][..size.min(7)], Ok(taken));
+    }
+    drop(input);
+    check_requests(&rt, &device, &[2, 5, 2, 4, 6, 65536, 5]);
+}
+
+/// What follows the expected bytes stays unread.
+#[test]
+fn bytes_after_the_expected_ones_stay(rt: HostRuntime) {
+    let mut device = Std::new(TEXT);
+    let mut input = ReadAhead::new(rt.alloc(), &mut device);
+    let mut chunk = [0; 3];
+    input.expect(5);
+    for (count, want) in [(3, b"rat".as_slice()), (2, b"tl".as_slice())] {
+        check_taken_once(&rt, &mut input, &mut chunk, Ok(count));
+        check_bytes(&rt, &chunk[..count], want);
+    }
+    drop(input);
+    check_bytes(&rt, *device.inner(), b"es");
 }
 
 /// A device as a user might define it: reading returns the same byte again and again, writing accepts all bytes and

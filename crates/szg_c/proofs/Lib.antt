@@ -8,8 +8,11 @@ pub mod TablebaseKind
 pub mod HeldValues
 pub mod FrontBlocks
 pub mod SoundMen
+pub mod PutPositions
 pub mod TooManyMen
+pub mod MenOnBoard
 pub mod Values
 pub mod TableProbes
+pub mod LinesProbed
 mod Printing
 mod ReadPositions

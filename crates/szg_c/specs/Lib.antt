@@ -9,6 +9,8 @@ pub mod FrontBlocks
 pub mod Texts
 pub mod Tablebases
 pub mod Fens
+pub mod FenLines
+pub mod Boards
 pub use Rattle.szg_file.specs.Held
 pub use Rattle.szg_file.specs.Values
 pub use Rattle.szg_file.specs.Opened

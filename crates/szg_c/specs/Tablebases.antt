@@ -107,20 +107,22 @@ IsLacking files p status before after =
 
 -- ---- probes
 
--- The class of the position by the tables, or what is missing.
+-- The class of the position by the tables, or what is missing, which else stays.
 pub record IsClassProbed (files : List InPlace) (p : Position) (status : ℕ) (class : ℤ) (before after : RawMissing) : Type 0 where
   pub done : status ≡ 0 → (k : Class) × (probed (mapped_classes files) p ≡ Some k) × (class ≡ number_of_class k)
   pub lacking : (status ≡ 0 → ⊥) → IsLacking files p status before after
+  pub stays : status ≡ 0 → after ≡ before
 
 -- The tables contradict themselves where they have no answer; else the status says what is missing.
 abbrev pub IsUnanswered : List InPlace → Type 0 → Position → ℕ → RawMissing → RawMissing → Type 0
-IsUnanswered files none p status before after = ((status ≡ CONTRADICTION) × none) ⊎ IsLacking files p status before after
+IsUnanswered files none p status before after = ((status ≡ CONTRADICTION) × none × (after ≡ before)) ⊎ IsLacking files p status before after
 
 -- The class with the fifty-move counter and the DTZ of the position by the tables, or why there is none.
 pub record IsDistanceProbed (files : List InPlace) (counter : ℕ) (p : Position) (status : ℕ) (distance : RawDistance) (before after : RawMissing) : Type 0 where
   pub done : status ≡ 0 → (k : Class) × (plies : ℕ) × (probed_distance (mapped_classes files) (mapped_numbers files) p ≡ Some (k, plies))
       × (distance.class ≡ number_of_class (class_at counter k plies)) × (distance.dtz ≡ signed_distance k plies)
   pub lacking : (status ≡ 0 → ⊥) → IsUnanswered files (probed_distance (mapped_classes files) (mapped_numbers files) p ≡ None) p status before after
+  pub stays : status ≡ 0 → after ≡ before
 
 -- ---- moves
 
@@ -157,5 +159,6 @@ pub record AreRankedIn (files : List InPlace) (counter : ℕ) (p : Position) (be
 -- the ranked moves; or the list is too short for them; or why there are none
 pub record IsRankedWritten (files : List InPlace) (counter : ℕ) (p : Position) (status : ℕ) (before after : List RawMove) (count : ℕ) (lack_before lack_after : RawMissing) : Type 0 where
   pub done : status ≡ 0 → AreRankedIn files counter p before after count
-  pub short : status ≡ RANGE → length before < length (legal_moves p)
+  pub short : status ≡ RANGE → (length before < length (legal_moves p)) × (lack_after ≡ lack_before)
+  pub stays : status ≡ 0 → lack_after ≡ lack_before
   pub lacking : (status ≡ 0 → ⊥) → (status ≡ RANGE → ⊥) → IsUnanswered files (known_moves files counter p ≡ None) p status lack_before lack_after

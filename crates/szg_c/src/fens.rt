@@ -35,12 +35,22 @@ pub extern "C" fn szg_read_fen(text: &[u8], position: &mut RawPosition) -> u32
     ensures read { MatchResult (fen_result text.now) (λ said. (result ≡ DONE) × IsRead said position.old position.new) (λ status. result ≡ status) }
     ensures stays { (result ≡ DONE → ⊥) → position.new ≡ position.old }
 {
+    match said_by(text) {
+        Ok(said) => write_position(&said, position),
+        Err(status) => status,
+    }
+}
+
+/// Returns what a text says. Errors: the status that says why it names no position.
+pub(crate) fn said_by(text: &[u8]) -> Result<FenRecord, u32>
+    ensures { result ≡ fen_result text.now }
+{
     let Ok(fen) = str::from_utf8(text) else {
-        return MAN;
+        return Err(MAN);
     };
     match Position::parse_fen(fen) {
-        Ok(said) => write_position(&said, position),
-        Err(fault) => position_status(fault),
+        Ok(said) => Ok(said),
+        Err(fault) => Err(position_status(fault)),
     }
 }
 

@@ -8,6 +8,7 @@ ghost use Rattle.std.specs.contracts.impls.GlobalAllocator.TheImpl.{ghosts};
 ghost use Rattle.szg_file.specs.InPlace.{InPlace};
 ghost use Rattle.szg_tables.specs.contracts.opened.OpenedSet.{the_row};
 ghost use Rattle.szg_tables.specs.contracts.mapped.MappedTable.{the_row as table_row};
+ghost use Rattle.szg_tables.specs.contracts.mapped.MappedTableOpenTable.TheImpl.{ghosts as table_ghosts};
 ghost use denote.Signature.{static_lft};
 ghost use Rattle.szg_c.specs.Owned.{held};
 
@@ -23,11 +24,11 @@ use szg_tables::MappedSet;
 pub struct HeldTablebase {
     at: *mut u8,
     alloc: Global,
-    pub ghost value: { Option (List InPlace) } by { coded_option (the_row (table_row static_lft)).coded },
+    pub ghost value: { Option (List InPlace) } by { coded_option (the_row (table_row static_lft) table_ghosts).coded },
 }
 
 impl Model for HeldTablebase {
-    ghost also_owns = { λ h. held (ghosts.dealloc_token h.alloc) (the_row (table_row static_lft)) h.at h.value };
+    ghost also_owns = { λ h. held (ghosts.dealloc_token h.alloc) (the_row (table_row static_lft) table_ghosts) h.at h.value };
 }
 
 impl Handle for HeldTablebase {

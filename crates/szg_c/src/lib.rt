@@ -3,10 +3,12 @@
 //! Calls on a whole file take the name of the material, the kind and the file's bytes. Calls on a handle look up
 //! values, distances and placements in its table. A front's file may stay in memory or on a disk that C reads itself:
 //! then a call returns the byte range that a value needs, and another decodes the value. Calls on a tablebase probe positions
-//! over the tables that were added to it; another reads a position's text. Each returns a status. Three calls write texts.
+//! over the tables that were added to it; others read positions' texts. Each returns a status. Three calls write texts.
 //! `szg.h` is the interface for C.
 #![tactic(auto)]
 
+mod boards;
+mod fen_lines;
 mod fens;
 mod front_blocks;
 mod front_places;
@@ -27,6 +29,8 @@ mod tablebase_calls;
 mod texts;
 mod whole;
 
+pub use boards::{RawBoard, RawMen, szg_board_men};
+pub use fen_lines::szg_tablebase_wdl_of_fens;
 pub use fens::{RawPosition, szg_read_fen};
 pub use front_blocks::{RawByteRange, szg_front_find, szg_front_value};
 pub use front_places::{szg_front_index, szg_front_number, szg_front_probe};

@@ -52,6 +52,9 @@ pub const MISSING: u32 = 21;
 /// The tables of a tablebase contradict themselves.
 pub const CONTRADICTION: u32 = 22;
 
+/// In a list of classes: there is none.
+pub const NO_RESULT: i8 = 127;
+
 /// Returns the number of a reason.
 pub fn number_of(reason: Reason) -> u32
     ensures { result ≡ reason_number reason }

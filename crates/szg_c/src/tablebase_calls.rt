@@ -7,7 +7,7 @@ ghost use Rattle.szg_c.specs.Tablebases.{IsAdded, IsClassProbed, IsDistanceProbe
 
 use crate::handle::{put, share, shut, take};
 use crate::held_tablebase::HeldTablebase;
-use crate::men::{RawMan, are_coded_men, color_of, placed_men};
+use crate::men::{RawMan, are_coded_men, color_of, key_of_men, placed_men, sound_men};
 use crate::opening::{RawAnswer, kind_of, material_of};
 use crate::places::place_status;
 use crate::status::{
@@ -175,8 +175,27 @@ pub extern "C" fn szg_close_tablebase(alloc: Global, tablebase: &mut HeldTableba
 /// Returns the position of these men with this side to move (White 0, Black 1) and the square that a pawn has just passed
 /// over by a double step (64 or more for none). Errors: the first status that applies, of `MAN` for an invalid number, `MEN`,
 /// `SAME_SQUARE`, `PAWN_RANK`, `EN_PASSANT` and `IN_CHECK`.
-#[tactic(auto, unfolding(crate::specs::Tablebases::position_of))]
 fn position_of(men: &[RawMan], mover: u8, en_passant: u8) -> Result<Position, u32>
+    ensures { result ≡ position_of men.now mover en_passant }
+{
+    let mut placed_men = ArrayVec::new();
+    let Some(key) = key_of_men(men, mover, &mut placed_men) else {
+        return position_or_fault(men, mover, en_passant);
+    };
+    let Some(placement) = sound_men(men, mover, &placed_men, key) else {
+        return position_or_fault(men, mover, en_passant);
+    };
+    match Position::of_placed_men(&placement, Square::new(en_passant)) {
+        Ok(position) => Ok(position),
+        Err(fault) => Err(position_status(fault)),
+    }
+}
+
+/// The same, by one check of the men after the other: of bare kings too.
+#[cold]
+#[inline(never)]
+#[tactic(auto, unfolding(crate::specs::Tablebases::position_of))]
+fn position_or_fault(men: &[RawMan], mover: u8, en_passant: u8) -> Result<Position, u32>
     ensures { result ≡ position_of men.now mover en_passant }
 {
     if mover >= 2 {
@@ -239,7 +258,7 @@ fn report_missing(missing: Missing, lack: &mut RawMissing) -> u32
 }
 
 /// Writes the class of a position by a set of tables; returns the status.
-fn class_in(
+pub(crate) fn class_in(
     set: &mut MappedSet<'static>,
     position: &Position,
     class: &mut i8,
@@ -248,7 +267,6 @@ fn class_in(
     ensures kept { set.new ≡ set.old }
     ensures reported { IsClassProbed set.old position.now result class.new lack.old lack.new }
     ensures class_stays { (result ≡ 0 → ⊥) → class.new ≡ class.old }
-    ensures lack_stays { (result ≡ 0) → lack.new ≡ lack.old }
 {
     match probe_wdl(set, position) {
         Ok(found) => {
@@ -278,7 +296,7 @@ pub extern "C" fn szg_tablebase_wdl(
     lack: &mut RawMissing,
 ) -> u32
     ensures kept { tablebase.new.value ≡ tablebase.old.value }
-    ensures reported { MatchResult (position_of men.now mover en_passant) (λ p. IsClassProbed (files_of tablebase.old.value) p result class.new lack.old lack.new) (λ status. result ≡ status) }
+    ensures reported { MatchResult (position_of men.now mover en_passant) (λ p. IsClassProbed (files_of tablebase.old.value) p result class.new lack.old lack.new) (λ status. (result ≡ status) × (lack.new ≡ lack.old)) }
     ensures class_stays { (result ≡ 0 → ⊥) → class.new ≡ class.old }
 {
     let position = match position_of(men, mover, en_passant) {
@@ -335,7 +353,7 @@ pub extern "C" fn szg_tablebase_dtz(
     lack: &mut RawMissing,
 ) -> u32
     ensures kept { tablebase.new.value ≡ tablebase.old.value }
-    ensures reported { MatchResult (position_of men.now mover en_passant) (λ p. IsDistanceProbed (files_of tablebase.old.value) counter p result distance.new lack.old lack.new) (λ status. result ≡ status) }
+    ensures reported { MatchResult (position_of men.now mover en_passant) (λ p. IsDistanceProbed (files_of tablebase.old.value) counter p result distance.new lack.old lack.new) (λ status. (result ≡ status) × (lack.new ≡ lack.old)) }
     ensures distance_stays { (result ≡ 0 → ⊥) → distance.new ≡ distance.old }
 {
     let position = match position_of(men, mover, en_passant) {
@@ -438,7 +456,7 @@ pub extern "C" fn szg_tablebase_moves(
     lack: &mut RawMissing,
 ) -> u32
     ensures kept { tablebase.new.value ≡ tablebase.old.value }
-    ensures reported { MatchResult (position_of men.now mover en_passant) (λ p. IsRankedWritten (files_of tablebase.old.value) counter p result moves.old moves.new count.new lack.old lack.new) (λ status. result ≡ status) }
+    ensures reported { MatchResult (position_of men.now mover en_passant) (λ p. IsRankedWritten (files_of tablebase.old.value) counter p result moves.old moves.new count.new lack.old lack.new) (λ status. (result ≡ status) × (lack.new ≡ lack.old)) }
     ensures stays { (result ≡ 0 → ⊥) → (moves.new ≡ moves.old) × (count.new ≡ count.old) }
 {
     let position = match position_of(men, mover, en_passant) {

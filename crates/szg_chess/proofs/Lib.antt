@@ -21,3 +21,4 @@ pub mod Counted
 pub mod KeptMen
 pub mod Images
 pub mod ReadBack
+pub mod PlacementMen

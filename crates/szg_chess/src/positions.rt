@@ -60,12 +60,16 @@ impl Position {
         })
     }
 
-    /// Creates the position of a placement, with no en passant square. Errors: the side not to move is in check.
-    pub fn of_placement(placement: &Placement) -> Result<Position, PositionFault>
-        ensures accepted { IsNone (position_fault (record { placed_men = placement.now.placed_men; mover = placement.now.mover; en_passant = None })) → result ≡ Ok (record { placed_men = placement.now.placed_men; mover = placement.now.mover; en_passant = None }) }
-        ensures refused { IfSome (position_fault (record { placed_men = placement.now.placed_men; mover = placement.now.mover; en_passant = None })) (λ fault. result ≡ Err fault) }
+    /// Creates a position of a placement's men, the side to move, and the square that a pawn has just passed over by a double
+    /// step. Errors: the en passant square, or the side not to move is in check.
+    pub fn of_placed_men(
+        placed_men: &PlacedMen<'_>,
+        en_passant: Option<Square>,
+    ) -> Result<Position, PositionFault>
+        ensures accepted { IsNone (position_fault (record { placed_men = placed_men.now.placed_men; mover = placed_men.now.mover; en_passant = en_passant })) → result ≡ Ok (record { placed_men = placed_men.now.placed_men; mover = placed_men.now.mover; en_passant = en_passant }) }
+        ensures refused { IfSome (position_fault (record { placed_men = placed_men.now.placed_men; mover = placed_men.now.mover; en_passant = en_passant })) (λ fault. result ≡ Err fault) }
     {
-        Position::new(placement.men(), placement.mover(), None)
+        Position::of_men(placed_men.men(), placed_men.mover(), en_passant)
     }
 
     /// Returns the placement of the men and the side to move, which drops the en passant square. None for bare kings,

@@ -299,7 +299,7 @@ pub const CLASS: Argument = Argument {
     },
     values: ValueParser::Names(&["win", "cursed", "draw", "blessed", "loss"]),
     is_number: false,
-    help: "Class of the placement for the side to move, which a DTZ table does not store; its number,{n}the plies before the zeroing one, is that of a win unless another class is given; ignored{n}for a WDL table",
+    help: "Class of the placement for the side to move, which a DTZ table does not store; its number,{n}the plies before the zeroing one, is that of a win unless another class is given, and may be{n}one ply too low if the table stores it in moves, rounded; ignored{n}for a WDL table",
 };
 
 /// The form of a dump.

@@ -15,7 +15,6 @@ use std::fs::Metadata;
 use std::io::{Error, ErrorKind};
 use std::path::Path;
 use std::rt::Files;
-use szg_file::Ahead;
 use szg_files::{Draft, FileFault, FileSystem, Lock, Published, Reasons, is_folder};
 use szg_io::{Input, Output, give_whole, take_whole};
 use szg_named::{
@@ -226,7 +225,6 @@ fn copy_file<'a, S: FileSystem, R: Files>(
     target: &'a str,
 ) -> Result<Copied<'a>, CheckStop>
 where
-    S::File: Ahead,
     R::File: Lock,
     ensures copied { IfOk result (λ copied. IsCopied S.content S.failures S.File.Input due path.now target.now system.old copied) }
 {
@@ -275,7 +273,6 @@ fn copy_to<S: FileSystem, R: Files>(
     folder: &str,
 ) -> Result<(Vec<u8>, FileVerdict), CheckStop>
 where
-    S::File: Ahead,
     R::File: Lock,
 {
     let target = path_in(alloc, folder, path)?;
@@ -297,7 +294,6 @@ fn copy_files<S: FileSystem, R: Files, W: Output>(
     writer: &mut W,
 ) -> Result<CheckReport, CheckStop>
 where
-    S::File: Ahead,
     R::File: Lock,
 {
     let mut counts = CheckCounts {
@@ -362,7 +358,6 @@ pub(crate) fn run_copies<'a, S: FileSystem, R: Files, W: Output>(
     writer: &mut W,
 ) -> Ending<'a>
 where
-    S::File: Ahead,
     R::File: Lock,
 {
     let Some((folder, paths)) = asked.words.split_last() else {

@@ -27,7 +27,7 @@ use std::io::ErrorKind;
 use std::rt::Files;
 use std::time::Clock;
 use szg_build::Watcher;
-use szg_file::{Ahead, ReadFault, open_front};
+use szg_file::{ReadFault, open_front};
 use szg_files::{Disk, Draft, FileFault, FileSystem, Lock, Published, Reasons};
 use szg_io::{Input, Output, give_whole};
 use szg_named::{
@@ -239,7 +239,6 @@ fn stream_into<'a, S: FileSystem, R: Files>(
 ) -> Result<Published<'a>, FileStop<'a>>
 where
     R::File: Lock,
-    S::File: Ahead,
     requires listed { IsListed request.now.action }
     ensures stated { IfOk result (λ published. IsPublishedFrom S.content S.failures S.File.Input (Task.OnTable request.now) source.now target.now system.old system.new published) }
     ensures refused { (refusal : Refusal) → IsErrOf result (FileStop.Refused refusal) → MeetsFrom S.content S.failures S.File.Input (Task.OnTable request.now) source.now system.old system.new refusal }
@@ -273,7 +272,6 @@ fn stream_to<'a, S: FileSystem, R: Files, W: Output>(
 ) -> Result<Option<Published<'a>>, FileStop<'a>>
 where
     R::File: Lock,
-    S::File: Ahead,
     requires listed { IsListed request.now.action }
     ensures stated { IfOk result (λ published. IsCarriedFrom S.content S.failures S.File.Input W.Output (Task.OnTable request.now) source.now (option_map (λ path. path.now) target.entry) system.old system.new writer.old writer.new published) }
     ensures refused { (refusal : Refusal) → IsErrOf result (FileStop.Refused refusal) → (writer.new ≡ writer.old)
@@ -305,7 +303,6 @@ fn carry_out_file<'a, S: FileSystem, R: Files, W: Output, V: Watcher>(
 ) -> Result<Option<Published<'a>>, FileStop<'a>>
 where
     R::File: Lock,
-    S::File: Ahead,
     ensures stated { IfOk result (λ published. IsCarriedFrom S.content S.failures S.File.Input W.Output task.now source.now (option_map (λ path. path.now) target.entry) system.old system.new writer.old writer.new published) }
     ensures refused { (refusal : Refusal) → IsErrOf result (FileStop.Refused refusal) → (writer.new ≡ writer.old)
         × MeetsFrom S.content S.failures S.File.Input task.now source.now system.old system.new refusal }
@@ -387,7 +384,6 @@ fn run_from<'a, S: FileSystem, D: Files, W: Output, V: Watcher>(
 ) -> Ending<'a>
 where
     D::File: Lock,
-    S::File: Ahead,
     ensures { EndsTask result (λ published. IsCarriedFrom S.content S.failures S.File.Input W.Output task.now source.now (option_map (λ path. path.now) target.entry) system.old system.new writer.old writer.new published)
         ((refusal : Refusal) × MeetsFrom S.content S.failures S.File.Input task.now source.now system.old system.new refusal × Gives W.Output writer.old writer.new (refusal_line refusal) 0)
         (IsListing task.now (Some source.now) target.entry ⊎ IsUnwritten W.Output writer.old writer.new)
@@ -441,7 +437,6 @@ fn run_task<'a, R: Input, W: Output, S: FileSystem, D: Files, V: Watcher>(
 ) -> Ending<'a>
 where
     D::File: Lock,
-    S::File: Ahead,
     ensures { EndsTask result (HasDoneTask S.content S.failures S.File.Input R.Input W.Output task.now source.entry target.entry system.old system.new reader.old reader.new writer.old writer.new)
         (HasRefusedTask S.content S.failures S.File.Input R.Input W.Output task.now source.entry system.old system.new reader.old reader.new writer.old writer.new)
         (IsListing task.now source.entry target.entry ⊎ IsUnwritten W.Output writer.old writer.new)
@@ -549,7 +544,6 @@ fn check_into<'a, S: FileSystem, D: Files + Clock, W: Output>(
 ) -> Ending<'a>
 where
     D::File: Lock,
-    S::File: Ahead,
     ensures { EndsCheck result (λ report. IsFoundReport S.content S.failures S.File.Input W.Output options.entry (map (λ path. path.now) paths.now) system.old system.new writer.old writer.new report)
         (λ given. given ≡ Some target.now) (HasFailed (W.failures writer.old) (W.failures writer.new) (W.interrupted writer.new)) (writer.new ≡ writer.old) }
 {
@@ -586,7 +580,6 @@ fn check_by<'a, S: FileSystem, D: Files + Clock, W: Output>(
 ) -> Ending<'a>
 where
     D::File: Lock,
-    S::File: Ahead,
     ensures { EndsCheck result (λ report. IsFoundReport S.content S.failures S.File.Input W.Output options.entry (map (λ path. path.now) paths.now) system.old system.new writer.old writer.new report)
         (λ given. given ≡ option_map (λ path. path.now) target.entry) (HasFailed (W.failures writer.old) (W.failures writer.new) (W.interrupted writer.new)) (writer.new ≡ writer.old) }
 {
@@ -607,7 +600,6 @@ fn run_check<'a, S: FileSystem, D: Files + Clock, W: Output>(
 ) -> Ending<'a>
 where
     D::File: Lock,
-    S::File: Ahead,
     ensures { EndsCheck result (IsAskedReport S.content S.failures S.File.Input W.Output (asked_of job.entry) system.old system.new writer.old writer.new)
         (IsTargetOf (asked_of job.entry)) (HasFailed (W.failures writer.old) (W.failures writer.new) (W.interrupted writer.new)) (writer.new ≡ writer.old) }
 {
@@ -644,7 +636,6 @@ pub fn run_words<'a, P: Finder, R: Input, W: Output, S: FileSystem, D: Files + C
 ) -> Ending<'a>
 where
     D::File: Lock,
-    S::File: Ahead,
     // It asks to check files and gives no options: they were checked in their order, just their lines and the summary
     // were written, and the reader stays.
     ensures files { IfSome (files_to_check (map (λ word. word.now) words.now)) (λ paths. (reader.new ≡ reader.old)

@@ -18,7 +18,7 @@ use std::rt::Files;
 use std::time::Clock;
 use szg_build::Watcher;
 use szg_files::{Disk, Lock, Monitored};
-use szg_io::Std;
+use szg_io::{ReadAhead, Std};
 use szg_named::escaped_path;
 use szg_verified::Progress;
 
@@ -164,7 +164,7 @@ fn buffer_for(texts: &[&str], is_copies: bool) -> usize {
 }
 
 /// Runs the words on a machine's files, on an input and an output; also whether the reader of the output closed it.
-/// Nothing that follows a table or a dump is taken from the input, so it isn't read ahead.
+/// Nothing that follows a table or a dump is taken from the input.
 fn run_on_streams<'a, D: Files + Clock>(
     alloc: Global,
     machine: &'a D,
@@ -185,7 +185,7 @@ where
         return (Ending::Memory, false);
     };
     let mut disk = Disk::watched(alloc, machine, reads);
-    let mut reader = Std::new(input);
+    let mut reader = ReadAhead::new(alloc, Std::new(input));
     let mut output = Std::new(&mut writer);
     let ending = match &copies {
         Some(asked) => run_copies(alloc, &mut disk, machine, asked, &mut output),

@@ -22,7 +22,7 @@ use itoa::Buffer;
 use std::alloc::{AllocError, Global};
 use std::io::ErrorKind;
 use szg_build::{StreamFault, stream_dump};
-use szg_file::{Ahead, NoSink, ReadFault, Scanned, SinkFault, TableIndex, ValueSink, scan};
+use szg_file::{NoSink, ReadFault, Scanned, SinkFault, TableIndex, ValueSink, scan};
 use szg_files::{FileFault, FileSystem, Reasons};
 use szg_io::{Input, Output};
 use szg_values::Material;
@@ -148,11 +148,7 @@ pub fn is_listed(action: &Action) -> bool
 }
 
 /// Checks the file of the request's name and kind. It keeps no block.
-fn read_index<F: Input + Ahead>(
-    alloc: Global,
-    request: &Request,
-    file: &mut F,
-) -> Result<Scanned, Stop>
+fn read_index<F: Input>(alloc: Global, request: &Request, file: &mut F) -> Result<Scanned, Stop>
     requires placed { unplaced_refusal request.now.action ≡ None }
     requires first { F.moved file.old ≡ [] }
     ensures table { IfOk result (λ scanned. (t : Shown) × IsTableOf request.now t × (scanned.index ≡ index_of t.contents) × Takes F.Input file.old file.new (file_bytes t) 1) }
@@ -173,7 +169,7 @@ fn read_index<F: Input + Ahead>(
 }
 
 /// Checks the file of the request's name and kind, and whether the table has the part and side.
-fn check_part<F: Input + Ahead>(alloc: Global, request: &Request, file: &mut F) -> Result<(), Stop>
+fn check_part<F: Input>(alloc: Global, request: &Request, file: &mut F) -> Result<(), Stop>
     requires values { request.now.action ≡ Action.Values }
     requires first { F.moved file.old ≡ [] }
     ensures refused { (refusal : Refusal) → IsErrOf result (Stop.Refused refusal) → Meets F.Input (Task.OnTable request.now) file.old file.new refusal }
@@ -206,7 +202,7 @@ enum LinesStop {
 
 /// Writes each value of the request's part and side on a line, a block's values as soon as the block was read and
 /// checked.
-fn write_lines<F: Input + Ahead, W: Output>(
+fn write_lines<F: Input, W: Output>(
     alloc: Global,
     request: &Request,
     file: &mut F,
@@ -285,8 +281,6 @@ fn values_from<'a, S: FileSystem, W: Output>(
     system: &mut S,
     writer: &mut W,
 ) -> Result<(), FileStop<'a>>
-where
-    S::File: Ahead,
     requires values { request.now.action ≡ Action.Values }
     ensures stated { OnOk result (IsCarriedFrom S.content S.failures S.File.Input W.Output (Task.OnTable request.now) source.now None system.old system.new writer.old writer.new None) }
     ensures refused { (refusal : Refusal) → IsErrOf result (FileStop.Refused refusal) → (writer.new ≡ writer.old)
@@ -312,8 +306,6 @@ fn write_from<'a, S: FileSystem, W: Output>(
     system: &mut S,
     writer: &mut W,
 ) -> Result<(), FileStop<'a>>
-where
-    S::File: Ahead,
     requires values { request.now.action ≡ Action.Values }
     ensures stated { OnOk result (IsCarriedFrom S.content S.failures S.File.Input W.Output (Task.OnTable request.now) source.now None system.old system.new writer.old writer.new None) }
     ensures only { (refusal : Refusal) → IsErrOf result (FileStop.Refused refusal) → ⊥ }
@@ -332,7 +324,7 @@ where
 
 /// Writes the dump of the table with this index and these last bytes, whose file was checked, a block's values as soon as
 /// the block was read and checked.
-fn write_dump_lines<F: Input + Ahead, W: Output>(
+fn write_dump_lines<F: Input, W: Output>(
     alloc: Global,
     request: &Request,
     form: Form,
@@ -367,8 +359,6 @@ fn write_dump_from<'a, S: FileSystem, W: Output>(
     system: &mut S,
     writer: &mut W,
 ) -> Result<(), FileStop<'a>>
-where
-    S::File: Ahead,
     requires dump { request.now.action ≡ Action.Dump form }
     requires material { IsMaterial index.now.material }
     requires name { name_of index.now.material ≡ request.now.name.now }
@@ -398,8 +388,6 @@ fn dump_from<'a, S: FileSystem, W: Output>(
     system: &mut S,
     writer: &mut W,
 ) -> Result<(), FileStop<'a>>
-where
-    S::File: Ahead,
     requires dump { request.now.action ≡ Action.Dump form }
     ensures stated { OnOk result (IsCarriedFrom S.content S.failures S.File.Input W.Output (Task.OnTable request.now) source.now None system.old system.new writer.old writer.new None) }
     ensures refused { (refusal : Refusal) → IsErrOf result (FileStop.Refused refusal) → (writer.new ≡ writer.old)
@@ -438,8 +426,6 @@ pub fn stream_from<'a, S: FileSystem, W: Output>(
     system: &mut S,
     writer: &mut W,
 ) -> Result<(), FileStop<'a>>
-where
-    S::File: Ahead,
     requires listed { IsListed request.now.action }
     ensures stated { OnOk result (IsCarriedFrom S.content S.failures S.File.Input W.Output (Task.OnTable request.now) source.now None system.old system.new writer.old writer.new None) }
     ensures refused { (refusal : Refusal) → IsErrOf result (FileStop.Refused refusal) → (writer.new ≡ writer.old)

@@ -24,7 +24,6 @@ pub use fault::{MapFault, ReadFault, Reason, WriteFault};
 pub use flags::has_bit;
 pub use lookup::constant_value;
 pub use opened::fetching::{ByteRange, FetchFault, Located};
-pub use opened::forward::Ahead;
 pub use opened::front_table::{FrontTable, open_front};
 pub use opened::in_place::{TableInPlace, open_in_place};
 pub use opened::passed::Passed;

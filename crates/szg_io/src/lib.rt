@@ -12,6 +12,7 @@ mod device;
 mod memory;
 mod over_std;
 mod past;
+mod read_ahead;
 mod whole;
 
 pub use counters::Counters;
@@ -20,4 +21,5 @@ pub use device::{Input, IoFault, Output};
 pub use memory::Bytes;
 pub use over_std::{Std, fault_of};
 pub use past::Past;
+pub use read_ahead::ReadAhead;
 pub use whole::{DeviceFault, give_whole, take_once, take_whole};

@@ -1,7 +1,6 @@
 //! An input whose bytes are hashed while they are read.
 
 use std::io::Error;
-use szg_file::Ahead;
 use szg_files::Reasons;
 use szg_io::{Input, IoFault};
 use szg_sums::{Hasher, Sha256, sha256_of};
@@ -80,9 +79,7 @@ impl<F: Input, H: Hasher> Input for Hashed<F, H> {
         }
         answer
     }
-}
 
-impl<F: Input + Ahead, H: Hasher> Ahead for Hashed<F, H> {
     fn expect(&mut self, bytes: u64) {
         self.input.expect(bytes);
     }

@@ -19,7 +19,6 @@ use std::alloc::{AllocError, Global};
 use std::os::unix::fs::MetadataExt;
 use std::rt::Files;
 use std::time::{Clock, Duration, Instant};
-use szg_file::Ahead;
 use szg_files::FileSystem;
 use szg_io::{Output, give_whole};
 use szg_sums::Sums;
@@ -218,8 +217,6 @@ fn verdict_of<S: FileSystem, R: Files>(
     options: CheckOptions<'_>,
     entry: &PathToCheck,
 ) -> Result<CheckedFile, CheckStop>
-where
-    S::File: Ahead,
     ensures verdict { IfOk result (λ found. IsVerdictAt S.content S.failures S.File.Input options.entry (string_bytes entry.now.path) entry.now.note system.old system.new found) }
     ensures only { IsErrOf result CheckStop.Device → ⊥ }
 {
@@ -258,8 +255,6 @@ fn report_entry<S: FileSystem, D: Files + Clock>(
     options: CheckOptions<'_>,
     entry: &PathToCheck,
 ) -> Result<Reported, CheckStop>
-where
-    S::File: Ahead,
     ensures verdict { IfOk result (λ reported. IsVerdictAt S.content S.failures S.File.Input options.entry (string_bytes entry.now.path) entry.now.note system.old system.new reported.found) }
     ensures line { IfOk result (λ reported. IsShownLine options.entry.quiet options.entry.format options.entry.allow_trailing (string_bytes entry.now.path) reported.found.verdict reported.line.items) }
     ensures listed { IfOk result (λ reported. reported.listed.items ≡ manifest_line options.entry.allow_trailing (string_bytes entry.now.path) reported.found.verdict reported.found.digest) }
@@ -304,8 +299,6 @@ pub fn check_files<S: FileSystem, D: Files + Clock, W: Output>(
     paths: &[&str],
     writer: &mut W,
 ) -> Result<CheckReport, CheckStop>
-where
-    S::File: Ahead,
     ensures report { IfOk result (λ report. IsReport S.content S.failures S.File.Input W.Output plain_options (map (λ path. path.now) paths.now) system.old system.new writer.old writer.new report) }
     ensures found { IfOk result (λ report. IsFoundReport S.content S.failures S.File.Input W.Output plain_options (map (λ path. path.now) paths.now) system.old system.new writer.old writer.new report) }
     ensures device { IsErrOf result CheckStop.Device → HasFailed (W.failures writer.old) (W.failures writer.new) (W.interrupted writer.new) }
@@ -333,8 +326,6 @@ pub fn check_found<S: FileSystem, D: Files + Clock, W: Output>(
     paths: &[&str],
     writer: &mut W,
 ) -> Result<CheckReport, CheckStop>
-where
-    S::File: Ahead,
     ensures found { IfOk result (λ report. IsFoundReport S.content S.failures S.File.Input W.Output options.entry (map (λ path. path.now) paths.now) system.old system.new writer.old writer.new report) }
     ensures device { IsErrOf result CheckStop.Device → HasFailed (W.failures writer.old) (W.failures writer.new) (W.interrupted writer.new) }
 {
@@ -357,8 +348,6 @@ pub fn check_entries<S: FileSystem, D: Files + Clock, W: Output>(
     entries: &[PathToCheck],
     writer: &mut W,
 ) -> Result<CheckReport, CheckStop>
-where
-    S::File: Ahead,
     ensures report { IfOk result (λ report. IsReportOn S.content S.failures S.File.Input W.Output options.entry (map listed_of entries.now) system.old system.new writer.old writer.new report.counts report.manifest.items) }
     ensures device { IsErrOf result CheckStop.Device → HasFailed (W.failures writer.old) (W.failures writer.new) (W.interrupted writer.new) }
 {

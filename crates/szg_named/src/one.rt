@@ -12,14 +12,14 @@ use crate::hashed::Hashed;
 use crate::named::{Naming, named_as};
 use crate::stop::CheckStop;
 use std::alloc::Global;
-use szg_file::{Ahead, NoSink, ReadFault, scan};
+use szg_file::{NoSink, ReadFault, scan};
 use szg_files::{FileFault, FileSystem, Reasons};
 use szg_io::{DeviceFault, Input, take_whole};
 use szg_sums::{Hasher, Md5, Sha1, Sha256, Sha512, Sum};
 use szg_values::{Kind, Material};
 
 /// Checks an opened file: it must be a table, and nothing else. Errors: `Memory`.
-fn check_opened<F: Input + Ahead + Reasons>(
+fn check_opened<F: Input + Reasons>(
     alloc: Global,
     material: &Material,
     kind: Kind,
@@ -121,7 +121,7 @@ fn unlisted(found: FileVerdict) -> FileVerdict
 /// Checks an opened file, and compares `due` with the digest of the same bytes, and of those that follow a table. Errors:
 /// `Memory`.
 #[tactic(auto, using(crate::proofs::Hashing::no_table))]
-fn check_hashed<F: Input + Ahead + Reasons + Drop, H: Hasher>(
+fn check_hashed<F: Input + Reasons + Drop, H: Hasher>(
     alloc: Global,
     material: &Material,
     kind: Kind,
@@ -153,7 +153,7 @@ fn check_hashed<F: Input + Ahead + Reasons + Drop, H: Hasher>(
 }
 
 /// Checks an opened file, and compares its digest. Errors: `Memory`.
-fn check_summed<F: Input + Ahead + Reasons + Drop>(
+fn check_summed<F: Input + Reasons + Drop>(
     alloc: Global,
     material: &Material,
     kind: Kind,
@@ -173,7 +173,7 @@ fn check_summed<F: Input + Ahead + Reasons + Drop>(
 }
 
 /// Checks an opened file, and what its digest has to be. Errors: `Memory`.
-fn check_due<F: Input + Ahead + Reasons + Drop>(
+fn check_due<F: Input + Reasons + Drop>(
     alloc: Global,
     material: &Material,
     kind: Kind,
@@ -205,7 +205,7 @@ fn check_due<F: Input + Ahead + Reasons + Drop>(
 
 /// Checks an opened file, and what its digest has to be; of a table it computes the SHA-256 digest of the bytes that were
 /// checked, and of those that follow it. Errors: `Memory`.
-fn check_digested<F: Input + Ahead + Reasons + Drop>(
+fn check_digested<F: Input + Reasons + Drop>(
     alloc: Global,
     material: &Material,
     kind: Kind,
@@ -235,7 +235,7 @@ fn check_digested<F: Input + Ahead + Reasons + Drop>(
 
 /// Checks an opened file, what its digest has to be, and computes its SHA-256 digest if that is asked for. Errors: `Memory`.
 #[tactic(auto, using(crate::proofs::Hashing::found_digested))]
-fn check_file<F: Input + Ahead + Reasons + Drop>(
+fn check_file<F: Input + Reasons + Drop>(
     alloc: Global,
     material: &Material,
     kind: Kind,
@@ -264,8 +264,6 @@ pub fn check_path<S: FileSystem>(
     due: Due,
     has_digest: bool,
 ) -> Result<CheckedFile, CheckStop>
-where
-    S::File: Ahead,
     ensures verdict { IfOk result (λ found. IsFileVerdict S.content S.failures S.File.Input naming.entry due has_digest path.now system.old system.new found) }
     ensures only { IsErrOf result CheckStop.Device → ⊥ }
 {

@@ -4,5 +4,6 @@ mod Images
 mod ImageDistances
 mod MappedFiles
 pub mod OpenedSets
+pub mod FirstTables
 pub mod Among
 pub mod FetchedTables

@@ -1,10 +1,11 @@
 -- What opened tables store, by the table that is found.
-use Rattle.std.proofs.Common.{◌≡◌, ◌<◌, ℕ, zero, suc, Bool, true, cond, nat_lt, List, [], ◌∷◌, length, refl, sym, ap, ◌∙◌, subst, inl, inr, arith, Option, Some, None}
+use Rattle.std.proofs.Common.{get_or, set, ◌≡◌, ◌<◌, ℕ, zero, suc, Bool, true, cond, nat_lt, List, [], ◌∷◌, length, refl, sym, ap, ◌∙◌, subst, inl, inr, arith, Option, Some, None}
 use Rattle.std.specs.Prelude.{IfNone, IfSome, IsSomeAnd, find, option_and_then, position, slice_get}
 use Rattle.std.specs.List.{position_or_len}
 use Rattle.std.proofs.lemmas.Bool.{and_parts, cases_Bool, ltb-false, ltb-true}
 use Rattle.std.proofs.lemmas.List.Folds.{find_at}
-use Rattle.std.proofs.lemmas.Option.{slice_get_past}
+use Rattle.std.proofs.lemmas.List.{set-get_or}
+use Rattle.std.proofs.lemmas.Option.{slice_get_past, slice_get-get_or}
 use Rattle.szg_values.specs.Material.{Sides}
 use Rattle.szg_values.specs.Placement.{PlacedMan, Board, material_of}
 use Rattle.szg_values.specs.declared.Color.{Color}
@@ -26,35 +27,57 @@ none_there (x ∷ xs) zero h e = cc e
 none_there (x ∷ xs) (suc n) h e = none_there xs n (omega (arith, h)) e
 
 module _ {X : Type 0} (p : X → Bool) where
-  passes : (xs : List X) (x : X) → find p xs ≡ Some x → p x ≡ true
+  pub passes : (xs : List X) (x : X) → find p xs ≡ Some x → p x ≡ true
   passes [] x e = absurd (cc e)
   passes (y ∷ ys) x e = elim (cases_Bool (p y)) [
     | inl t ↦ let same : y ≡ x = cc (sym (ap (λ (b : Bool). cond b (Some y) (find p ys)) t) ∙ e) in ap p (sym same) ∙ t
     | inr f ↦ passes ys x (sym (ap (λ (b : Bool). cond b (Some y) (find p ys)) f) ∙ e)
   ]
 
-  first_there : (xs : List X) (n : ℕ) → position p xs ≡ Some n → (find p xs ≡ slice_get xs n) × (n < length xs)
-  first_there xs n e = elim (cases_Bool (nat_lt (position_or_len p xs) (length xs))) [
+  -- the number that is found is the length of what comes before it
+  found_is : (xs : List X) (n : ℕ) → position p xs ≡ Some n → (position_or_len p xs ≡ n) × (n < length xs)
+  found_is xs n e = elim (cases_Bool (nat_lt (position_or_len p xs) (length xs))) [
     | inl t ↦
         let same : position_or_len p xs ≡ n = cc (sym (ap (λ (b : Bool). cond b (Some (position_or_len p xs)) None) t) ∙ e) in
-        (find_at p xs ∙ ap (λ (k : ℕ). slice_get xs k) same, subst (λ (k : ℕ). k < length xs) same (ltb-true _ _ t))
+        (same, subst (λ (k : ℕ). k < length xs) same (ltb-true _ _ t))
     | inr f ↦ absurd (cc (sym (ap (λ (b : Bool). cond b (Some (position_or_len p xs)) None) f) ∙ e))
   ]
 
-  first_at : (xs : List X) (n : ℕ) → position p xs ≡ Some n → find p xs ≡ slice_get xs n
-  first_at xs n e = (first_there xs n e).0
+  pub first_is : (xs : List X) (n : ℕ) → position p xs ≡ Some n → position_or_len p xs ≡ n
+  first_is xs n e = (found_is xs n e).0
+
+  pub first_below : (xs : List X) (n : ℕ) → position p xs ≡ Some n → n < length xs
+  first_below xs n e = (found_is xs n e).1
+
+  pub first_at : (xs : List X) (n : ℕ) → position p xs ≡ Some n → find p xs ≡ slice_get xs n
+  first_at xs n e = find_at p xs ∙ ap (λ (k : ℕ). slice_get xs k) (first_is xs n e)
 
   first_passes : (P : X → Type 0) → ((x : X) → p x ≡ true → P x) → (xs : List X) (n : ℕ) → position p xs ≡ Some n → IsSomeAnd (slice_get xs n) P
   first_passes P of xs n e = go (slice_get xs n) refl where
     go : (o : Option X) → slice_get xs n ≡ o → IsSomeAnd o P
     go (Some x) at = of x (passes xs x (first_at xs n e ∙ at))
-    go None at = absurd (none_there xs n (first_there xs n e).1 at)
+    go None at = absurd (none_there xs n (first_below xs n e) at)
 
   first_nowhere : (xs : List X) → position p xs ≡ None → find p xs ≡ None
   first_nowhere xs e = elim (cases_Bool (nat_lt (position_or_len p xs) (length xs))) [
     | inl t ↦ absurd (cc (sym (ap (λ (b : Bool). cond b (Some (position_or_len p xs)) None) t) ∙ e))
     | inr f ↦ find_at p xs ∙ slice_get_past xs (position_or_len p xs) (ltb-false _ _ f)
   ]
+
+-- ---- the element with a number
+
+pub some_below : {X : Type 0} (xs : List X) (n : ℕ) (P : X → Type 0) → IsSomeAnd (slice_get xs n) P → n < length xs
+some_below [] n P h = absurd h
+some_below (x ∷ xs) zero P h = omega arith
+some_below (x ∷ xs) (suc n) P h = let more = some_below xs n P h in omega (arith, more)
+
+pub element_is : {X : Type 0} (xs ys : List X) (n : ℕ) (x : X) → xs ≡ ys → n < length ys → x ≡ get_or xs n x → slice_get ys n ≡ Some x
+element_is {X} xs ys n x same below is =
+    ap (λ (zs : List X). slice_get zs n) (sym same) ∙ slice_get-get_or xs n x (subst (λ (zs : List X). n < length zs) (sym same) below) ∙ ap (λ (y : X). Some y) (sym is)
+
+-- one that is put back as it was changes nothing
+pub put_back : {X : Type 0} (xs : List X) (n : ℕ) (new old : X) → new ≡ old → old ≡ get_or xs n old → set xs n new ≡ xs
+put_back xs n new old same is = ap (set xs n) (same ∙ is) ∙ set-get_or xs n old
 
 -- a table that passes the test for a kind is of this kind
 pub same_kind : (kind k : Kind) → is_kind kind k ≡ true → k ≡ kind

@@ -3,5 +3,6 @@ pub mod Distances
 pub mod Listed
 pub mod Images
 pub mod Opened
+pub mod Hints
 pub mod Mapped
 pub mod Fetched

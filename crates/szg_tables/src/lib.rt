@@ -7,6 +7,7 @@ use thiserror::Error;
 
 mod distances;
 mod fetched;
+mod hints;
 mod in_memory;
 pub mod laws;
 mod listed;

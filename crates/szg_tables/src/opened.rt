@@ -7,6 +7,7 @@ ghost use Rattle.szg_tables.specs.Opened.{IsReason, IsReasonIn, class_in, first_
 ghost use Rattle.szg_tables.specs.Stored.{IsMissing, board_of};
 ghost use Rattle.szg_tables.specs.declared.MissingReason.TheVariants.{Table};
 
+use crate::hints::{HINTS, find};
 use crate::in_memory::{class_of_value, is_kind, number_of_class};
 use crate::{Missing, MissingReason};
 use std::alloc::AllocError;
@@ -97,14 +98,18 @@ fn number_in<T: OpenTable>(
 }
 
 /// Returns whether an index is that of a table of a kind for these men.
-fn is_for(index: &TableIndex, kind: Kind, men: &PlacedMen<'_>) -> bool
+pub(crate) fn is_for(index: &TableIndex, kind: Kind, men: &PlacedMen<'_>) -> bool
     ensures { result ≡ is_for kind (material_of men.now.placed_men) index.now }
 {
     is_kind(kind, index.kind()) && has_men_of(index, men)
 }
 
 /// Returns the number of the first table of a kind for these men.
-fn first_for<T: OpenTable>(tables: &[T], kind: Kind, men: &PlacedMen<'_>) -> Option<usize>
+pub(crate) fn first_for<T: OpenTable>(
+    tables: &[T],
+    kind: Kind,
+    men: &PlacedMen<'_>,
+) -> Option<usize>
     ensures { result ≡ position (λ t. is_for kind (material_of men.now.placed_men) (T.opened t).index) tables.now }
 {
     tables
@@ -127,29 +132,37 @@ fn missing(position: &Position, kind: Kind, reason: MissingReason) -> Missing
     }
 }
 
-/// A set of opened tables of both kinds. Of two of one kind and material the first counts.
+/// A set of opened tables of both kinds. Of two of one kind and material the first counts. Where a probe found its tables is
+/// remembered, so that it doesn't take longer if there are many.
 #[derive(Drop)]
-pub struct OpenedSet<T> {
+pub struct OpenedSet<T: OpenTable> {
     pub(crate) tables: Vec<T>,
+    hints: [u16; HINTS],
 }
 
-impl<T> Model for OpenedSet<T> {
+impl<T: OpenTable> Model for OpenedSet<T> {
     ghost use Rattle.std.specs.Prelude.{List};
     ghost use Rattle.std.specs.Coded.{coded_list};
+    ghost use Rattle.szg_tables.specs.Hints.{AreHints};
 
     ghost Value = { List T };
 
     ghost coded = { coded_list T.code };
 
     ghost view = { λ set. set.tables.items };
+
+    ghost invariant = { λ set. AreHints T.opened set.tables.items set.hints };
 }
 
-impl<T: Drop> OpenedSet<T> {
+impl<T: OpenTable + Drop> OpenedSet<T> {
     /// Creates a set of these tables.
     pub fn of(tables: Vec<T>) -> OpenedSet<T>
         ensures { result ≡ tables.items }
     {
-        OpenedSet { tables }
+        OpenedSet {
+            tables,
+            hints: [0; HINTS],
+        }
     }
 
     /// Returns the tables.
@@ -173,12 +186,13 @@ impl<T: Drop> OpenedSet<T> {
 
 impl<T: OpenTable> OpenedSet<T> {
     /// Returns the number of the first table of a kind for these men.
-    fn find(&self, kind: Kind, men: &PlacedMen<'_>) -> Option<usize>
-        ensures found { IfSome result (λ n. first_for T.opened kind men.now self.now ≡ slice_get self.now n) }
-        ensures kind { IfSome result (λ n. IsSomeAnd (slice_get self.now n) (λ t. (T.opened t).index.kind ≡ kind)) }
-        ensures none { IfNone result (first_for T.opened kind men.now self.now ≡ None) }
+    fn find(&mut self, kind: Kind, men: &PlacedMen<'_>) -> Option<usize>
+        ensures same { self.new ≡ self.old }
+        ensures found { IfSome result (λ n. first_for T.opened kind men.now self.old ≡ slice_get self.old n) }
+        ensures kind { IfSome result (λ n. IsSomeAnd (slice_get self.old n) (λ t. (T.opened t).index.kind ≡ kind)) }
+        ensures none { IfNone result (first_for T.opened kind men.now self.old ≡ None) }
     {
-        first_for(&self.tables, kind, men)
+        find(&self.tables, &mut self.hints, kind, men)
     }
 
     /// Returns the class of a placement's men in the table of this number.

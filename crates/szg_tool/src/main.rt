@@ -26,7 +26,7 @@ fn main(rt: HostRuntime) -> ExitCode {
                 &mut line,
                 &ReadLine::new(&rt, &rt, is_terminal),
             );
-            if is_terminal && status == ExitCode::SUCCESS {
+            if status == ExitCode::SUCCESS {
                 print_assumed_class(&rt, &words);
             }
             status

@@ -7,6 +7,7 @@ use Rattle.std.proofs.lemmas.List.{get_or-set_same, get_or-set_other, length-set
 use Rattle.std.proofs.lemmas.List.Elements.{All-head, All-tail, All-weaker}
 use Rattle.std.proofs.lemmas.Option.{slice_get_within, get_or_from_slice_get, slice_get-get_or}
 use native.Mathlib.Nat.{pow-suc, pow-le-pow_right, zero-lt-suc}
+use Rattle.std.proofs.Math.Nat.{add-mul, mul_assoc}
 use Rattle.szg_verify.proofs.Loops.{next_left}
 use Rattle.szg_values.specs.Men.{is_man, is_color, other_color, rank_of}
 use Rattle.szg_values.specs.Material.{Sides}
@@ -32,7 +33,7 @@ use Rattle.szg_chess.proofs.Members.{any_of}
 use Rattle.szg_chess.proofs.MoveFacts.{legal_move}
 use Rattle.szg_probe.specs.Probing.{StoredClasses}
 use Rattle.szg_verify.specs.Entries.{StoredDistances, StoredTables, tables_of}
-use Rattle.szg_verify.specs.Memory.{digits_of, holds_pawn, packed, start_of, size_of, IsSpotOf, class_code, class_by, code_of, is_wide, is_near, found_by, IsRight, AreRight}
+use Rattle.szg_verify.specs.Memory.{digits_of, place_value, unit_on, holds_pawn, packed, start_of, size_of, IsSpotOf, class_code, class_by, code_of, is_wide, is_near, found_by, IsRight, AreRight}
 use Rattle.szg_verify.specs.Verified.{is_checked}
 use Rattle.szg_verify.specs.Walk.{colored_men, is_king_walked, placed_by, position_by, IsRangeChecked}
 use Rattle.szg_verify.specs.declared.memory.Cell.{Cell}
@@ -300,32 +301,64 @@ quiet_spots tag place len p m mover pawn digits position held quiet moves holds 
     quiet_spot len (tag s) (place s) p m position held quiet (subst (λ (c : Color). start_of c len ≤ place s) moves from) (subst (λ (c : Color). place s < start_of c len + size_of c len) moves to)
     (sym (ap (λ (b : Bool). packed b digits) holds ∙ ap (packed (holds_pawn p.placed_men)) are) ∙ number ∙ ap (λ (c : Color). Some (tag s * size_of c len + (place s - start_of c len))) moves)
 
--- the digits of men after a move
-digits_moved : (m : Move) (men : List PlacedMan) → m.to < 64 → AreOnBoard men → digits_of (map (man_after m) men) < 64 ^ length men
-digits_moved m [] to h = omega arith
-digits_moved m (s ∷ men) to h =
-    let here : (man_after m s).2 < 64 = elim (cases_Bool (s.2 == m.from)) [
-      | inl t ↦ rw t to
-      | inr f ↦ rw f (All-head (λ (u : PlacedMan). u.2 < 64) s men h)
+-- ---- place values
+
+place_power : (square : ℕ) (men : List PlacedMan) → place_value square men < 64 ^ length men
+place_power square [] = omega arith
+place_power square (s ∷ men) =
+    let here : unit_on square s < 64 = elim (cases_Bool (s.2 == square)) [
+      | inl t ↦ rw t (omega arith)
+      | inr f ↦ rw f (omega arith)
     ] in
-    let rest = digits_moved m men to (All-tail (λ (u : PlacedMan). u.2 < 64) s men h) in
+    let rest = place_power square men in
     let power = pow-suc 64 (length men) in
     omega (arith, here, rest, power)
 
-pub digits_moved_within : (most i : ℕ) (m : Move) (men : List PlacedMan) → m.to < 64 → AreOnBoard men → length men ≤ most + i → digits_of (map (man_after m) (drop i men)) < 64 ^ most
-digits_moved_within most i m men to h few =
+-- few men have small place values
+pub place_within : (most i square : ℕ) (men : List PlacedMan) → length men ≤ most + i → place_value square (drop i men) < 64 ^ most
+place_within most i square men few =
     let size = length-drop i men in
     let much : 64 ^ length (drop i men) ≤ 64 ^ most = pow-le-pow_right (zero-lt-suc 63) (omega (arith, few, size)) in
-    let power = digits_moved m (drop i men) to (all_dropped (λ u. u.2 < 64) i men h) in
+    let power = place_power square (drop i men) in
     omega (arith, much, power)
 
-pub digits_moved_step : (men : List PlacedMan) (m : Move) (step : ℕ) (s : PlacedMan) → step < length men → s ≡ get_or men (length men - 1 - step) s →
-    digits_of (map (man_after m) (drop (length men - (step + 1)) men)) ≡ (man_after m s).2 + 64 * digits_of (map (man_after m) (drop (length men - step) men))
-digits_moved_step men m step s less is =
+pub place_step : (men : List PlacedMan) (square step : ℕ) (s : PlacedMan) → step < length men → s ≡ get_or men (length men - 1 - step) s →
+    place_value square (drop (length men - (step + 1)) men) ≡ unit_on square s + 64 * place_value square (drop (length men - step) men)
+place_step men square step s less is =
     let place : length men - (step + 1) ≡ length men - 1 - step = omega (arith, less) in
     let next : length men - 1 - step + 1 ≡ length men - step = omega (arith, less) in
-    ap (λ (i : ℕ). digits_of (map (man_after m) (drop i men))) place ∙ ap (λ (us : List PlacedMan). digits_of (map (man_after m) us)) (next_left men (length men - 1 - step) s (omega (arith, less)) is)
-    ∙ ap (λ (i : ℕ). (man_after m s).2 + 64 * digits_of (map (man_after m) (drop i men))) next
+    ap (λ (i : ℕ). place_value square (drop i men)) place ∙ ap (place_value square) (next_left men (length men - 1 - step) s (omega (arith, less)) is)
+    ∙ ap (λ (i : ℕ). unit_on square s + 64 * place_value square (drop i men)) next
+
+place_times : (h w n : ℕ) → (h + 64 * w) * n ≡ h * n + 64 * (w * n)
+place_times h w n = add-mul h (64 * w) n ∙ ap (λ (k : ℕ). h * n + k) (mul_assoc 64 w n)
+
+-- one man's digit: what he loses and gains is the difference of the squares, if he moves
+digit_moved : (m : Move) (s : PlacedMan) → (man_after m s).2 + unit_on m.from s * m.from ≡ s.2 + unit_on m.from s * m.to
+digit_moved m s = elim (cases_Bool (s.2 == m.from)) [
+  | inl t ↦ let on : s.2 ≡ m.from = eqb-true s.2 m.from t in rw t (omega (arith, on))
+  | inr f ↦ rw f (omega arith)
+]
+
+-- the number after a move, from the one before it
+pub digits_moved : (m : Move) (men : List PlacedMan) → digits_of (map (man_after m) men) + place_value m.from men * m.from ≡ digits_of men + place_value m.from men * m.to
+digits_moved m [] = omega arith
+digits_moved m (s ∷ men) =
+    let here = digit_moved m s in
+    let rest = digits_moved m men in
+    let from = place_times (unit_on m.from s) (place_value m.from men) m.from in
+    let to = place_times (unit_on m.from s) (place_value m.from men) m.to in
+    omega (arith, here, rest, from, to)
+
+-- as it is computed: with what the man that moves gains and loses
+pub digits_changed : (m : Move) (men : List PlacedMan) (digits square place from to : ℕ) → digits ≡ digits_of men → place ≡ place_value square men → square ≡ m.from → from ≡ m.from → to ≡ m.to →
+    digits_of (map (man_after m) men) + place * from ≡ digits + place * to
+digits_changed m men digits square place from to before value stands leaves enters =
+    let moved = digits_moved m men in
+    let is : place ≡ place_value m.from men = value ∙ ap (λ (n : ℕ). place_value n men) stands in
+    let lost : place * from ≡ place_value m.from men * m.from = ap (λ (n : ℕ). n * from) is ∙ ap (λ (n : ℕ). place_value m.from men * n) leaves in
+    let gained : place * to ≡ place_value m.from men * m.to = ap (λ (n : ℕ). n * to) is ∙ ap (λ (n : ℕ). place_value m.from men * n) enters in
+    omega (arith, before, moved, lost, gained)
 
 -- cells that are right before such a move are right after it, and the other way round
 pub right_after : (tables : StoredTables) (cells : List Cell) (p q : Position) (m : Move) → IsPosition p → Contains (legal_moves p) m → is_zeroing p m ≡ false → q ≡ after p m →

@@ -5,6 +5,7 @@ pub mod Certificate
 pub mod Probed
 pub mod Loops
 pub mod Near
+pub mod Zeroing
 pub mod Checked
 pub mod Chosen
 pub mod Alike

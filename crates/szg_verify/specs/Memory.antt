@@ -22,8 +22,22 @@ abbrev pub digits_of : List PlacedMan → ℕ
 digits_of [] = 0
 digits_of (s ∷ men) = s.2 + 64 * digits_of men
 
+-- The place value of the man on a square in that number: 64 to the power of the number of men before him.
+abbrev pub unit_on : ℕ → PlacedMan → ℕ
+unit_on square s = if s.2 == square then 1 else 0
+
+abbrev pub place_value : ℕ → List PlacedMan → ℕ
+place_value square [] = 0
+place_value square (s ∷ men) = unit_on square s + 64 * place_value square men
+
 abbrev pub holds_pawn : List PlacedMan → Bool
 holds_pawn men = list_any (λ s. is_man Pawn s.0) men
+
+-- These are the men's number, whether one of them is a pawn, and the place value of the man on a square.
+pub record IsNumbered (men : List PlacedMan) (digits : ℕ) (pawn : Bool) (square place : ℕ) : Type 0 where
+  pub number : digits ≡ digits_of men
+  pub holds : pawn ≡ holds_pawn men
+  pub value : place ≡ place_value square men
 
 -- Without pawns a walk meets the first man, White's king, on the ranks 1 to 5 of the files a to e alone: his digit is one of 25.
 abbrev pub packed : Bool → ℕ → Option ℕ

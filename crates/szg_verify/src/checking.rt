@@ -1,16 +1,16 @@
 //! The check of a position.
 
-ghost use Rattle.std.specs.Prelude.{◌≡◌, ◌≤◌, length, IfOk, IfSome, IsTrue, Some, None, if◌then◌else◌, Contains, is_none};
+ghost use Rattle.std.specs.Prelude.{◌≡◌, IfOk, IfSome, IsTrue, Some, None, if◌then◌else◌, Contains, is_none};
 ghost use Rattle.szg_chess.specs.Laws.{kinds_of};
 ghost use Rattle.szg_chess.specs.Moves.{after, is_zeroing, legal_moves};
 ghost use Rattle.szg_verify.specs.Conditions.{breaks};
 ghost use Rattle.szg_verify.specs.Entries.{steps_to, tables_of, plain_entry};
-ghost use Rattle.szg_verify.specs.Memory.{AreRight};
+ghost use Rattle.szg_verify.specs.Memory.{AreRight, IsNumbered};
 ghost use Rattle.szg_verify.specs.Verified.{entry_after, is_checked};
 
 use crate::conditions::{Condition, broken_by};
 use crate::entries::{find_entry, plain_entry};
-use crate::memory::recall_after;
+use crate::memory::{Numbered, is_zeroing, number_men, recall_after, set_square};
 use crate::steps::Steps;
 use crate::{Cell, DtzTables};
 use szg_chess::{Move, Position};
@@ -40,14 +40,12 @@ pub fn check_position<T: Tables, D: DtzTables<Fault = T::Fault>>(
     ensures checked { IfOk result (λ o. is_none o ≡ is_checked (tables_of (T.stored classes.old) (D.distances distances.old)) position.now) }
     ensures broken { IfOk result (λ o. IfSome o (λ c. IsTrue (breaks (tables_of (T.stored classes.old) (D.distances distances.old)) position.now c))) }
 {
-    let found = position.legal_moves();
-    let moves = found.as_slice();
-    let entry = match plain_entry(classes, distances, cells, quiet, position, moves) {
+    let entry = match plain_entry(classes, distances, cells, quiet, position) {
         Ok(Some(entry)) => entry,
         Ok(None) => return Ok(Some(Condition::NoNumber)),
         Err(fault) => return Err(fault),
     };
-    match all_steps(classes, distances, cells, quiet, position, moves, steps) {
+    match all_steps(classes, distances, cells, quiet, position, steps) {
         Ok(true) => Ok(broken_by(PLY_LIMIT, entry, position.is_check(), steps.as_slice())),
         Ok(false) => Ok(Some(Condition::NoNumberAfter)),
         Err(fault) => Err(fault),
@@ -61,21 +59,23 @@ fn all_steps<T: Tables, D: DtzTables<Fault = T::Fault>>(
     cells: &mut [Cell],
     quiet: &mut Steps,
     position: &Position,
-    moves: &[Move],
     steps: &mut Steps,
 ) -> Result<bool, T::Fault>
-    requires moves { moves.now ≡ legal_moves position.now }
-    requires few { length moves.now ≤ 128 }
     requires right { AreRight (kinds_of position.now.placed_men) (tables_of (T.stored classes.old) (D.distances distances.old)) cells.old }
     ensures same_classes { T.stored classes.new ≡ T.stored classes.old }
     ensures same_distances { D.distances distances.new ≡ D.distances distances.old }
     ensures right { AreRight (kinds_of position.now.placed_men) (tables_of (T.stored classes.old) (D.distances distances.old)) cells.new }
     ensures steps { IfOk result (λ all. (if all then Some steps.new.items else None) ≡ steps_to (entry_after (tables_of (T.stored classes.old) (D.distances distances.old)) position.now) position.now (legal_moves position.now)) }
 {
+    let moves = position.legal_moves();
+    let mut numbered = number_men(position);
     steps.clear();
-    for m in moves {
-        let zeroing = position.is_zeroing(m);
-        match entry_after(classes, distances, cells, quiet, position, *m, zeroing) {
+    for m in moves.as_slice() {
+        let zeroing = is_zeroing(&numbered, position, m);
+        set_square(&mut numbered, position, m.from);
+        match entry_after(
+            classes, distances, cells, quiet, position, &numbered, *m, zeroing,
+        ) {
             Ok(Some(entry)) => steps.push(entry, zeroing),
             Ok(None) => return Ok(false),
             Err(fault) => return Err(fault),
@@ -92,10 +92,13 @@ fn entry_after<T: Tables, D: DtzTables<Fault = T::Fault>>(
     cells: &mut [Cell],
     quiet: &mut Steps,
     position: &Position,
+    numbered: &Numbered,
     m: Move,
     zeroing: bool,
 ) -> Result<Option<Entry>, T::Fault>
     requires legal { Contains (legal_moves position.now) m }
+    requires numbered { IsNumbered position.now.placed_men numbered.now.digits numbered.now.pawn numbered.now.square numbered.now.place }
+    requires from { numbered.now.square ≡ m.from }
     requires zeroing { zeroing ≡ is_zeroing position.now m }
     requires right { AreRight (kinds_of position.now.placed_men) (tables_of (T.stored classes.old) (D.distances distances.old)) cells.old }
     ensures same_classes { T.stored classes.new ≡ T.stored classes.old }
@@ -106,7 +109,7 @@ fn entry_after<T: Tables, D: DtzTables<Fault = T::Fault>>(
     // A fact that the proof uses: the men are those of a position.
     let _ = position.men();
     if !zeroing {
-        if let Some(entry) = recall_after(cells, false, position, &m) {
+        if let Some(entry) = recall_after(cells, false, position, numbered, &m) {
             return Ok(Some(entry));
         }
         return find_entry(classes, distances, cells, quiet, &position.after(m));

@@ -1,18 +1,19 @@
 //! Entries: what tables say of a position.
 
 ghost use Rattle.std.specs.Prelude.{◌≡◌, ◌+◌, ◌||◌, Contains, IfOk, IsFalse, None, Some, ◌≤◌, length, if◌then◌else◌};
-ghost use Rattle.std.specs.List.{list_any, list_all};
+ghost use Rattle.std.specs.List.{All, list_any, list_all};
 ghost use Rattle.szg_chess.specs.Laws.{kinds_of};
 ghost use Rattle.szg_chess.specs.Moves.{has_no_move, is_zeroing, legal_moves};
 ghost use Rattle.szg_probe.specs.Probing.{probed};
-ghost use Rattle.szg_verify.specs.Memory.{AreRight};
+ghost use Rattle.szg_verify.specs.Memory.{AreRight, IsNumbered};
 ghost use Rattle.szg_verify.specs.Entries.{is_drawn, keeps, least_plies, most_plies, plies_before, entry_by_distance, wins_at_once, is_one_ply, farthest, greatest, least, entry_before, near_entry, near_after, far_as, quiet_moves, steps_to, plain_entry, tables_of, StepList};
 
-use crate::memory::{keep, recall, recall_after};
+use crate::memory::{
+    Numbered, holds_pawn, is_zeroing, keep, number_men, recall, recall_after, set_square,
+};
 use crate::steps::Steps;
 use crate::{Cell, Distance, DtzTables};
-use arrayvec::ArrayVec;
-use szg_chess::{MAX_MOVES, Move, Position};
+use szg_chess::{Move, Position};
 use szg_game::{Class, Entry};
 use szg_probe::{Tables, probe_wdl};
 
@@ -59,16 +60,16 @@ fn entry_by_distance(class: Class, distance: Distance) -> Entry
     }
 }
 
-/// Returns whether some zeroing move keeps a win, given the legal moves.
-fn has_win_at_once<T: Tables>(
+/// Returns whether one of these moves is zeroing and keeps a win.
+fn some_wins<T: Tables>(
     classes: &mut T,
     class: Class,
     position: &Position,
     moves: &[Move],
 ) -> Result<bool, T::Fault>
-    requires { moves.now ≡ legal_moves position.now }
+    requires legal { All (Contains (legal_moves position.now)) moves.now }
     ensures same { T.stored classes.new ≡ T.stored classes.old }
-    ensures test { IfOk result (λ b. b ≡ list_any (wins_at_once (T.stored classes.old) class position.now) (legal_moves position.now)) }
+    ensures test { IfOk result (λ b. b ≡ list_any (wins_at_once (T.stored classes.old) class position.now) moves.now) }
 {
     for m in moves {
         if position.is_zeroing(m) {
@@ -84,63 +85,68 @@ fn has_win_at_once<T: Tables>(
     Ok(false)
 }
 
-/// Returns whether each of these moves is zeroing.
-fn has_only_zeroing(position: &Position, moves: &[Move]) -> bool
-    ensures { result ≡ list_all (is_zeroing position.now) moves.now }
+/// Returns whether some zeroing move keeps a win. Without pawns captures alone are zeroing.
+fn has_win_at_once<T: Tables>(
+    classes: &mut T,
+    class: Class,
+    position: &Position,
+) -> Result<bool, T::Fault>
+    ensures same { T.stored classes.new ≡ T.stored classes.old }
+    ensures test { IfOk result (λ b. b ≡ list_any (wins_at_once (T.stored classes.old) class position.now) (legal_moves position.now)) }
 {
-    moves.iter().all(|m| position.is_zeroing(m))
+    if holds_pawn(position.men()) {
+        some_wins(classes, class, position, position.legal_moves().as_slice())
+    } else {
+        some_wins(classes, class, position, position.captures().as_slice())
+    }
 }
 
-/// Returns whether the next zeroing move is one ply away, given the legal moves.
+/// Returns whether each legal move is zeroing.
+fn has_only_zeroing(position: &Position) -> bool
+    ensures { result ≡ list_all (is_zeroing position.now) (legal_moves position.now) }
+{
+    if holds_pawn(position.men()) {
+        position
+            .legal_moves()
+            .as_slice()
+            .iter()
+            .all(|m| position.is_zeroing(m))
+    } else {
+        !position.has_quiet_move()
+    }
+}
+
+/// Returns whether the next zeroing move is one ply away.
 fn is_one_ply<T: Tables>(
     classes: &mut T,
     class: Class,
     position: &Position,
-    moves: &[Move],
 ) -> Result<bool, T::Fault>
-    requires { moves.now ≡ legal_moves position.now }
     ensures same { T.stored classes.new ≡ T.stored classes.old }
     ensures test { IfOk result (λ b. b ≡ is_one_ply (T.stored classes.old) class position.now) }
 {
     if class.is_won() {
-        has_win_at_once(classes, class, position, moves)
+        has_win_at_once(classes, class, position)
     } else {
-        Ok(has_only_zeroing(position, moves))
+        Ok(has_only_zeroing(position))
     }
 }
 
-/// Returns whether there is no move, given the legal moves.
-fn is_ended(position: &Position, moves: &[Move]) -> bool
-    requires { moves.now ≡ legal_moves position.now }
+/// Returns whether there is no move.
+fn is_ended(position: &Position) -> bool
     ensures { result ≡ has_no_move position.now }
 {
-    // The position is in the contract alone.
-    let _ = position;
-    moves.is_empty()
+    !position.has_move()
 }
 
-/// Returns the legal moves, or none for a draw, since its entry does not depend on them.
-fn moves_that_count(class: Class, position: &Position) -> ArrayVec<Move, MAX_MOVES>
-    ensures { IsFalse (is_drawn class) → result.items ≡ legal_moves position.now }
-{
-    if is_drawn(class) {
-        ArrayVec::new()
-    } else {
-        position.legal_moves()
-    }
-}
-
-/// Returns the entry of a position of this class from the stored number alone, given the legal moves unless it is a draw.
-/// None if there is no number.
+/// Returns the entry of a position of this class from the stored number alone. None if there is no number.
 fn near_of<T: Tables, D: DtzTables<Fault = T::Fault>>(
     classes: &mut T,
     distances: &mut D,
     position: &Position,
     class: Class,
-    moves: &[Move],
 ) -> Result<Option<Entry>, T::Fault>
     requires class { probed (T.stored classes.old) position.now ≡ Some class }
-    requires moves { IsFalse (is_drawn class) → moves.now ≡ legal_moves position.now }
     ensures same_classes { T.stored classes.new ≡ T.stored classes.old }
     ensures same_distances { D.distances distances.new ≡ D.distances distances.old }
     ensures entry { IfOk result (λ e. e ≡ near_entry (tables_of (T.stored classes.old) (D.distances distances.old)) position.now) }
@@ -153,14 +159,14 @@ fn near_of<T: Tables, D: DtzTables<Fault = T::Fault>>(
             upper: 0,
         }));
     }
-    if is_ended(position, moves) {
+    if is_ended(position) {
         return Ok(Some(Entry {
             class,
             lower: 0,
             upper: 0,
         }));
     }
-    let one_ply = match is_one_ply(classes, class, position, moves) {
+    let one_ply = match is_one_ply(classes, class, position) {
         Ok(one_ply) => one_ply,
         Err(fault) => return Err(fault),
     };
@@ -185,10 +191,8 @@ fn kept_near<T: Tables, D: DtzTables<Fault = T::Fault>>(
     cells: &mut [Cell],
     position: &Position,
     class: Class,
-    moves: &[Move],
 ) -> Result<Option<Entry>, T::Fault>
     requires class { probed (T.stored classes.old) position.now ≡ Some class }
-    requires moves { IsFalse (is_drawn class) → moves.now ≡ legal_moves position.now }
     requires right { AreRight (kinds_of position.now.placed_men) (tables_of (T.stored classes.old) (D.distances distances.old)) cells.old }
     ensures same_classes { T.stored classes.new ≡ T.stored classes.old }
     ensures same_distances { D.distances distances.new ≡ D.distances distances.old }
@@ -196,7 +200,7 @@ fn kept_near<T: Tables, D: DtzTables<Fault = T::Fault>>(
     ensures entry { IfOk result (λ e. e ≡ near_entry (tables_of (T.stored classes.old) (D.distances distances.old)) position.now) }
     ensures undrawn { IfOk result (λ e. e ≡ None → IsFalse (is_drawn class)) }
 {
-    match near_of(classes, distances, position, class, moves) {
+    match near_of(classes, distances, position, class) {
         Ok(Some(entry)) => {
             keep(cells, true, position, entry);
             Ok(Some(entry))
@@ -223,8 +227,7 @@ fn find_near<T: Tables, D: DtzTables<Fault = T::Fault>>(
         Ok(class) => class,
         Err(fault) => return Err(fault),
     };
-    let moves = moves_that_count(class, position);
-    kept_near(classes, distances, cells, position, class, moves.as_slice())
+    kept_near(classes, distances, cells, position, class)
 }
 
 /// Returns `near_entry` after a legal move that is not zeroing.
@@ -233,9 +236,12 @@ fn near_after<T: Tables, D: DtzTables<Fault = T::Fault>>(
     distances: &mut D,
     cells: &mut [Cell],
     position: &Position,
+    numbered: &Numbered,
     m: Move,
 ) -> Result<Option<Entry>, T::Fault>
     requires legal { Contains (legal_moves position.now) m }
+    requires numbered { IsNumbered position.now.placed_men numbered.now.digits numbered.now.pawn numbered.now.square numbered.now.place }
+    requires from { numbered.now.square ≡ m.from }
     requires quiet { IsFalse (is_zeroing position.now m) }
     requires right { AreRight (kinds_of position.now.placed_men) (tables_of (T.stored classes.old) (D.distances distances.old)) cells.old }
     ensures same_classes { T.stored classes.new ≡ T.stored classes.old }
@@ -245,7 +251,7 @@ fn near_after<T: Tables, D: DtzTables<Fault = T::Fault>>(
 {
     // A fact that the proof uses: the men are those of a position.
     let _ = position.men();
-    if let Some(entry) = recall_after(cells, true, position, &m) {
+    if let Some(entry) = recall_after(cells, true, position, numbered, &m) {
         return Ok(Some(entry));
     }
     find_near(classes, distances, cells, &position.after(m))
@@ -269,10 +275,12 @@ fn quiet_steps<T: Tables, D: DtzTables<Fault = T::Fault>>(
     ensures right { AreRight (kinds_of position.now.placed_men) (tables_of (T.stored classes.old) (D.distances distances.old)) cells.new }
     ensures steps { IfOk result (λ all. (if all then Some steps.new.items else None) ≡ steps_to (near_after (tables_of (T.stored classes.old) (D.distances distances.old)) position.now) position.now (quiet_moves position.now)) }
 {
+    let mut numbered = number_men(position);
     steps.clear();
     for m in moves {
-        if !position.is_zeroing(m) {
-            match near_after(classes, distances, cells, position, *m) {
+        set_square(&mut numbered, position, m.from);
+        if !is_zeroing(&numbered, position, m) {
+            match near_after(classes, distances, cells, position, &numbered, *m) {
                 Ok(Some(entry)) => steps.push(entry, false),
                 Ok(None) => return Ok(false),
                 Err(fault) => return Err(fault),
@@ -336,7 +344,7 @@ fn entry_before(class: Class, steps: &[(Entry, bool)]) -> Entry
     }
 }
 
-/// Returns the entry of a position of this class one ply before the stored side, given the legal moves.
+/// Returns the entry of a position of this class one ply before the stored side.
 fn far_entry<T: Tables, D: DtzTables<Fault = T::Fault>>(
     classes: &mut T,
     distances: &mut D,
@@ -344,17 +352,15 @@ fn far_entry<T: Tables, D: DtzTables<Fault = T::Fault>>(
     quiet: &mut Steps,
     position: &Position,
     class: Class,
-    moves: &[Move],
 ) -> Result<Option<Entry>, T::Fault>
-    requires moves { moves.now ≡ legal_moves position.now }
-    requires few { length moves.now ≤ 128 }
     requires right { AreRight (kinds_of position.now.placed_men) (tables_of (T.stored classes.old) (D.distances distances.old)) cells.old }
     ensures same_classes { T.stored classes.new ≡ T.stored classes.old }
     ensures same_distances { D.distances distances.new ≡ D.distances distances.old }
     ensures right { AreRight (kinds_of position.now.placed_men) (tables_of (T.stored classes.old) (D.distances distances.old)) cells.new }
     ensures entry { IfOk result (λ e. e ≡ far_as (tables_of (T.stored classes.old) (D.distances distances.old)) position.now class) }
 {
-    match quiet_steps(classes, distances, cells, position, moves, quiet) {
+    let moves = position.legal_moves();
+    match quiet_steps(classes, distances, cells, position, moves.as_slice(), quiet) {
         Ok(true) => Ok(Some(entry_before(class, quiet.as_slice()))),
         Ok(false) => Ok(None),
         Err(fault) => Err(fault),
@@ -369,19 +375,16 @@ fn kept_far<T: Tables, D: DtzTables<Fault = T::Fault>>(
     quiet: &mut Steps,
     position: &Position,
     class: Class,
-    moves: &[Move],
 ) -> Result<Option<Entry>, T::Fault>
     requires class { probed (T.stored classes.old) position.now ≡ Some class }
-    requires moves { moves.now ≡ legal_moves position.now }
     requires far { near_entry (tables_of (T.stored classes.old) (D.distances distances.old)) position.now ≡ None }
-    requires few { length moves.now ≤ 128 }
     requires right { AreRight (kinds_of position.now.placed_men) (tables_of (T.stored classes.old) (D.distances distances.old)) cells.old }
     ensures same_classes { T.stored classes.new ≡ T.stored classes.old }
     ensures same_distances { D.distances distances.new ≡ D.distances distances.old }
     ensures right { AreRight (kinds_of position.now.placed_men) (tables_of (T.stored classes.old) (D.distances distances.old)) cells.new }
     ensures entry { IfOk result (λ e. e ≡ plain_entry (tables_of (T.stored classes.old) (D.distances distances.old)) position.now) }
 {
-    match far_entry(classes, distances, cells, quiet, position, class, moves) {
+    match far_entry(classes, distances, cells, quiet, position, class) {
         Ok(Some(entry)) => {
             keep(cells, false, position, entry);
             Ok(Some(entry))
@@ -391,8 +394,8 @@ fn kept_far<T: Tables, D: DtzTables<Fault = T::Fault>>(
     }
 }
 
-/// Returns the entry of a position of this class without regard to its en passant square, given the legal moves unless it
-/// is a draw, and keeps it. None if there is no number for the position or for one after its moves.
+/// Returns the entry of a position of this class without regard to its en passant square, and keeps it. None if there is no
+/// number for the position or for one after its moves.
 fn kept_entry<T: Tables, D: DtzTables<Fault = T::Fault>>(
     classes: &mut T,
     distances: &mut D,
@@ -400,20 +403,17 @@ fn kept_entry<T: Tables, D: DtzTables<Fault = T::Fault>>(
     quiet: &mut Steps,
     position: &Position,
     class: Class,
-    moves: &[Move],
 ) -> Result<Option<Entry>, T::Fault>
     requires class { probed (T.stored classes.old) position.now ≡ Some class }
-    requires moves { IsFalse (is_drawn class) → moves.now ≡ legal_moves position.now }
-    requires few { length moves.now ≤ 128 }
     requires right { AreRight (kinds_of position.now.placed_men) (tables_of (T.stored classes.old) (D.distances distances.old)) cells.old }
     ensures same_classes { T.stored classes.new ≡ T.stored classes.old }
     ensures same_distances { D.distances distances.new ≡ D.distances distances.old }
     ensures right { AreRight (kinds_of position.now.placed_men) (tables_of (T.stored classes.old) (D.distances distances.old)) cells.new }
     ensures entry { IfOk result (λ e. e ≡ plain_entry (tables_of (T.stored classes.old) (D.distances distances.old)) position.now) }
 {
-    match kept_near(classes, distances, cells, position, class, moves) {
+    match kept_near(classes, distances, cells, position, class) {
         Ok(Some(entry)) => Ok(Some(entry)),
-        Ok(None) => kept_far(classes, distances, cells, quiet, position, class, moves),
+        Ok(None) => kept_far(classes, distances, cells, quiet, position, class),
         Err(fault) => Err(fault),
     }
 }
@@ -437,29 +437,17 @@ pub(crate) fn find_entry<T: Tables, D: DtzTables<Fault = T::Fault>>(
         Ok(class) => class,
         Err(fault) => return Err(fault),
     };
-    let moves = moves_that_count(class, position);
-    kept_entry(
-        classes,
-        distances,
-        cells,
-        quiet,
-        position,
-        class,
-        moves.as_slice(),
-    )
+    kept_entry(classes, distances, cells, quiet, position, class)
 }
 
-/// Returns what `find_entry` does, given the legal moves, and finds it only if it was not found before.
+/// Returns what `find_entry` does, and finds it only if it was not found before.
 pub(crate) fn plain_entry<T: Tables, D: DtzTables<Fault = T::Fault>>(
     classes: &mut T,
     distances: &mut D,
     cells: &mut [Cell],
     quiet: &mut Steps,
     position: &Position,
-    moves: &[Move],
 ) -> Result<Option<Entry>, T::Fault>
-    requires moves { moves.now ≡ legal_moves position.now }
-    requires few { length moves.now ≤ 128 }
     requires right { AreRight (kinds_of position.now.placed_men) (tables_of (T.stored classes.old) (D.distances distances.old)) cells.old }
     ensures same_classes { T.stored classes.new ≡ T.stored classes.old }
     ensures same_distances { D.distances distances.new ≡ D.distances distances.old }
@@ -469,9 +457,5 @@ pub(crate) fn plain_entry<T: Tables, D: DtzTables<Fault = T::Fault>>(
     if let Some(entry) = recall(cells, false, position) {
         return Ok(Some(entry));
     }
-    let class = match probe_wdl(classes, position) {
-        Ok(class) => class,
-        Err(fault) => return Err(fault),
-    };
-    kept_entry(classes, distances, cells, quiet, position, class, moves)
+    find_entry(classes, distances, cells, quiet, position)
 }

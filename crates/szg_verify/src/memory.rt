@@ -10,7 +10,7 @@ ghost use Rattle.szg_chess.specs.Laws.{kinds_of};
 ghost use Rattle.szg_chess.specs.Moves.{after, is_zeroing, legal_moves, man_after};
 ghost use Rattle.szg_chess.specs.Position.{Position, IsPosition};
 ghost use Rattle.szg_verify.specs.Entries.{StoredTables};
-ghost use Rattle.szg_verify.specs.Memory.{AreRight, IsSpotOf, class_by, class_code, code_of, digits_of, found_by, holds_pawn, is_near, is_wide, packed, size_of, start_of};
+ghost use Rattle.szg_verify.specs.Memory.{AreRight, IsNumbered, IsSpotOf, class_by, class_code, code_of, digits_of, found_by, holds_pawn, is_near, is_wide, packed, place_value, size_of, start_of, unit_on};
 
 use szg_chess::{Move, Position};
 use szg_game::{Class, Entry};
@@ -29,6 +29,55 @@ pub struct Cell {
 struct Spot {
     tag: u16,
     place: usize,
+}
+
+/// The squares of a position's men as one number, whether one of them is a pawn, and the place value of the man on a square:
+/// what the spots of the positions after his moves have in common.
+#[derive(Drop)]
+pub(crate) struct Numbered {
+    pub(crate) digits: u64,
+    pub(crate) pawn: bool,
+    pub(crate) square: Square,
+    pub(crate) place: u64,
+}
+
+/// Returns the number of a position's men, with the place value of the man on a1.
+pub(crate) fn number_men(position: &Position) -> Numbered
+    ensures { IsNumbered position.now.placed_men result.digits result.pawn result.square result.place }
+{
+    let men = position.men();
+    let square = Square::default();
+    Numbered {
+        digits: digits_of(men),
+        pawn: holds_pawn(men),
+        square,
+        place: place_value(square, men),
+    }
+}
+
+/// Sets the square of the man whose place value is there.
+pub(crate) fn set_square(numbered: &mut Numbered, position: &Position, square: Square)
+    requires { IsNumbered position.now.placed_men numbered.old.digits numbered.old.pawn numbered.old.square numbered.old.place }
+    ensures numbered { IsNumbered position.now.placed_men numbered.new.digits numbered.new.pawn numbered.new.square numbered.new.place }
+    ensures square { numbered.new.square ≡ square }
+{
+    if numbered.square.number() != square.number() {
+        numbered.square = square;
+        numbered.place = place_value(square, position.men());
+    }
+}
+
+/// Returns whether a move is zeroing, given the men's number.
+pub(crate) fn is_zeroing(numbered: &Numbered, position: &Position, m: &Move) -> bool
+    requires { IsNumbered position.now.placed_men numbered.now.digits numbered.now.pawn numbered.now.square numbered.now.place }
+    ensures { result ≡ is_zeroing position.now m.now }
+{
+    // Without pawns captures alone are zeroing.
+    if numbered.pawn {
+        position.is_zeroing(m)
+    } else {
+        position.is_capture(m)
+    }
 }
 
 /// Empties all cells.
@@ -59,13 +108,16 @@ pub(crate) fn recall_after(
     cells: &[Cell],
     needs_near: bool,
     position: &Position,
+    numbered: &Numbered,
     m: &Move,
 ) -> Option<Entry>
+    requires numbered { IsNumbered position.now.placed_men numbered.now.digits numbered.now.pawn numbered.now.square numbered.now.place }
+    requires from { numbered.now.square ≡ m.now.from }
     requires legal { Contains (legal_moves position.now) m.now }
     requires quiet { IsFalse (is_zeroing position.now m.now) }
     ensures { IfSome result (λ e. (tables : StoredTables) → AreRight (kinds_of position.now.placed_men) tables cells.now → found_by needs_near tables (after position.now m.now) ≡ Some e) }
 {
-    let Some(spot) = spot_after(cells.len(), position, m) else {
+    let Some(spot) = spot_after(cells.len(), position, numbered, m) else {
         return None;
     };
     recall_at(cells, needs_near, spot)
@@ -196,7 +248,9 @@ fn spot_of(len: usize, position: &Position) -> Option<Spot>
 }
 
 /// Returns where the entry of the position after a legal move that is not zeroing is kept, of so many cells.
-fn spot_after(len: usize, position: &Position, m: &Move) -> Option<Spot>
+fn spot_after(len: usize, position: &Position, numbered: &Numbered, m: &Move) -> Option<Spot>
+    requires numbered { IsNumbered position.now.placed_men numbered.now.digits numbered.now.pawn numbered.now.square numbered.now.place }
+    requires from { numbered.now.square ≡ m.now.from }
     requires legal { Contains (legal_moves position.now) m.now }
     requires quiet { IsFalse (is_zeroing position.now m.now) }
     ensures spot { IfSome result (λ s. IsSpotOf len (after position.now m.now) s.tag s.place) }
@@ -204,13 +258,11 @@ fn spot_after(len: usize, position: &Position, m: &Move) -> Option<Spot>
     // A fact that the proof uses: the men are those of a position.
     ensures position { IsPosition position.now }
 {
-    let men = position.men();
-    spot_by(
-        len,
-        other_color(position.mover()),
-        holds_pawn(men),
-        digits_after(m, men),
-    )
+    // A fact that the proof uses: the men are those of a position.
+    let _ = position.men();
+    let pawn = numbered.pawn;
+    let digits = digits_after(position, numbered, m);
+    spot_by(len, other_color(position.mover()), pawn, digits)
 }
 
 fn other_color(color: Color) -> Color
@@ -279,7 +331,8 @@ fn packed(pawn: bool, digits: u64) -> Option<u64>
     }
 }
 
-fn holds_pawn(men: &[(Man, Color, Square)]) -> bool
+/// Returns whether one of the men is a pawn.
+pub(crate) fn holds_pawn(men: &[(Man, Color, Square)]) -> bool
     ensures { result ≡ holds_pawn men.now }
 {
     men.iter().any(|man| man.0 == Man::Pawn)
@@ -299,30 +352,41 @@ fn digits_of(men: &[(Man, Color, Square)]) -> u64
     digits
 }
 
-/// Returns the squares of men after a move that captures none as one number.
-fn digits_after(m: &Move, men: &[(Man, Color, Square)]) -> u64
-    requires count { length men.now ≤ 6 }
-    requires on_board { AreOnBoard men.now }
-    ensures digits { result ≡ digits_of (map (man_after m.now) men.now) }
+/// Returns the squares of the men after a move that captures none as one number, from the number before it.
+fn digits_after(position: &Position, numbered: &Numbered, m: &Move) -> u64
+    requires numbered { IsNumbered position.now.placed_men numbered.now.digits numbered.now.pawn numbered.now.square numbered.now.place }
+    requires from { numbered.now.square ≡ m.now.from }
+    ensures digits { result ≡ digits_of (map (man_after m.now) position.now.placed_men) }
 {
-    let mut digits = 0;
-    for step in 0..men.len() {
-        let square = square_after(m, &men[men.len() - 1 - step]);
-        digits = u64::from(square.number()) + 64 * digits;
-    }
-    digits
+    // A fact that the proof uses: the men are those of a position.
+    let _ = position.men();
+    let place = numbered.place;
+    let gained = place * u64::from(m.to.number());
+    let lost = place * u64::from(m.from.number());
+    numbered.digits + gained - lost
 }
 
-/// Returns the square of a man after a move.
-fn square_after(m: &Move, man: &(Man, Color, Square)) -> Square
-    ensures square { result ≡ (man_after m.now man.now).2 }
-    ensures to { m.now.to < 64 }
+/// Returns the place value of the man on a square in that number: what the number is if he is on b1, and the others are on a1.
+fn place_value(square: Square, men: &[(Man, Color, Square)]) -> u64
+    requires { length men.now ≤ 6 }
+    ensures { result ≡ place_value square men.now }
 {
-    // A fact that the proof uses: the move leads to a square.
-    let _ = m.to.number();
-    if man.2.number() == m.from.number() {
-        m.to
+    let mut value = 0;
+    for step in 0..men.len() {
+        let unit = unit_on(square, &men[men.len() - 1 - step]);
+        value = unit + 64 * value;
+    }
+    value
+}
+
+/// Returns 1 if a man is on a square, else 0.
+fn unit_on(square: Square, man: &(Man, Color, Square)) -> u64
+    ensures unit { result ≡ unit_on square man.now }
+    ensures few { result ≤ 1 }
+{
+    if man.2.number() == square.number() {
+        1
     } else {
-        man.2
+        0
     }
 }

@@ -9,10 +9,10 @@
     with szg.Table.open("tables/KQvK.rtbw") as table:
         table.probe_wdl([(szg.KING, szg.WHITE, 60), (szg.QUEEN, szg.WHITE, 0), (szg.KING, szg.BLACK, 7)], szg.WHITE)
         table.placement(0, 0, 11711)                       # the men of an index, and who moves
-        table.values()                                     # all values: numpy.asarray takes them
+        table.values()                                     # all stored values: numpy.asarray takes them
 
-What a single table stores (`Table`, `probe_wdl_table`, `probe_dtz_table`) isn't the result of the position if a capture
-(WDL), or a capture or pawn move (DTZ), decides. `probe_wdl`, `probe_dtz` and `rank_moves` of a Tablebase are results.
+What a single table stores (`Table`, `probe_wdl_table`, `probe_dtz_table`) isn't the position's result (`probe_wdl`,
+`probe_dtz` and `rank_moves` of a Tablebase) if a capture (WDL), or a capture or pawn move (DTZ), decides.
 
 Opening a table checks all of it but its blocks, and these too with verify=True: you get the table, or Refused with the
 first check that fails and its byte. Each block is checked when a value is fetched from it: you get the value, or BadBlock.

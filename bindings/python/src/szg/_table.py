@@ -14,7 +14,7 @@ KINDS = {".rtbw": "wdl", ".rtbz": "dtz"}
 
 
 class Spot(NamedTuple):
-    """Where a table stores a placement: `Table.get(spot.index, spot.part, spot.side)` is its value."""
+    """Where a table stores a placement: `Table.get(spot.index, spot.part, spot.side)` is the stored value."""
 
     part: int
     side: int
@@ -88,9 +88,9 @@ class Table:
         return size.value
 
     def get(self, index: int, part: int = 0, side: int = 0) -> int:
-        """The stored value at an index, which isn't always the position's (see `probe_wdl` and `probe_dtz`).
+        """The stored value at an index: not the result (`Tablebase.probe_wdl`, `probe_dtz`) if a capture or pawn move decides.
 
-        In WDL it is the stored class plus 2; in DTZ a value that `number` decodes.
+        In WDL, where only captures count, it is the stored class plus 2; in DTZ a value that `number` decodes.
 
         Errors: IndexError if the table has no such part, side or index; BadBlock if its block does not decode."""
         part, side, index, value = _byte(part, "part"), _byte(side, "side"), _index(index), c_uint16()
@@ -111,7 +111,9 @@ class Table:
         return memoryview(values).cast("B").cast("H")
 
     def number(self, value: int, *, wdl: int, part: int = 0) -> int:
-        """The number of plies of a stored value of a DTZ table in a class: what `probe_dtz` returns for it.
+        """The stored number of a DTZ value in a class: not the DTZ (`Tablebase.probe_dtz`) if a capture or pawn move decides.
+
+        `Table.probe_dtz` returns it for a placement with this value.
 
         `wdl` is the class of the side to move: 2 win, 1 cursed win, -1 blessed loss, -2 loss.
 
@@ -147,23 +149,22 @@ class Table:
         return tuple((kind, color == 0, square) for kind, color, square in zip(found[::3], found[1::3], found[2::3])), mover.value == 0
 
     def probe_wdl(self, board: Placement, turn: Optional[bool] = None) -> int:
-        """The stored class of a placement, which isn't the position's if a capture decides: then it may be lower.
+        """The stored class of a placement: not the position's (`Tablebase.probe_wdl`) if a capture decides, but maybe lower.
 
         It is that of the side to move: 2 win, 1 cursed win, 0 draw, -1 blessed loss, -2 loss. En passant isn't known to the
-        table. python-chess's `probe_wdl_table` returns the same. The position's class: `Tablebase.probe_wdl`.
+        table. python-chess's `probe_wdl_table` returns the same.
 
         Errors: Untold if the table has no class for it; BadBlock; ValueError for a DTZ table or a bad FEN; TypeError."""
         self._require("wdl")
         return self._probe(position_of(board, turn), 0)
 
     def probe_dtz(self, board: Placement, turn: Optional[bool] = None, *, wdl: int) -> int:
-        """The stored number n of a placement, which isn't the position's distance if a capture or pawn move decides.
+        """The stored number n of a placement: not the DTZ (`Tablebase.probe_dtz`) if a capture or pawn move decides.
 
         It counts the plies before the zeroing one (a capture, a pawn move or mate), without sign; in the classes 1 and -1
         from the 101st on. En passant and the fifty-move counter aren't known to the table. `wdl` is the class of the side
         to move: 2 win, 1 cursed win, -1 blessed loss, -2 loss. n is the first number of python-chess's `probe_dtz_table`.
-        The position's distance: `Tablebase.probe_dtz`. What a table counts in moves is doubled, and the distance may be one
-        ply more.
+        What a table counts in moves is doubled, and the distance may be one ply more.
 
         Errors: Untold `WrongSide` if the table stores the other side to move only, `Draw` for the class 0, or another
         reason; BadBlock; ValueError for a WDL table, another class or a bad FEN; TypeError."""

@@ -75,6 +75,18 @@ class Tablebase:
         self._folders.append(Folder(folder, load_wdl, load_dtz, found))
         return len(found)
 
+    @property
+    def tables(self) -> List[Key]:
+        """The names and kinds of the tables that were added, sorted: ("KQvK", "dtz"), ("KQvK", "wdl"), ..
+
+        Errors: ValueError if the tablebase is closed."""
+        return sorted(self._files().paths)
+
+    @property
+    def most_men(self) -> int:
+        """The most men of a WDL table that was added, 0 without one. Errors: ValueError if the tablebase is closed."""
+        return max((len(name) - 1 for name, kind in self._files().paths if kind == "wdl"), default=0)
+
     def probe_wdl(self, board: Placement, turn: Optional[bool] = None) -> int:
         """The class of a position for the side to move: 2 win, 1 cursed win, 0 draw, -1 blessed loss, -2 loss.
 
@@ -110,9 +122,9 @@ class Tablebase:
         return found
 
     def probe_wdl_table(self, board: Placement, turn: Optional[bool] = None) -> int:
-        """The class that a WDL table stores, which isn't the position's if a capture decides: then it may be lower.
+        """The class that a WDL table stores: not the position's (`probe_wdl`) if a capture decides, but maybe lower.
 
-        Two kings are a draw without a table. It is what python-chess's `probe_wdl_table` returns; `probe_wdl` is the result.
+        Two kings are a draw without a table. It is what python-chess's `probe_wdl_table` returns.
 
         Errors: MissingTableError, a KeyError, if no folder has the table; Untold if the table has no class for the
         placement; Refused; BadBlock; OSError; TypeError; ValueError."""
@@ -121,10 +133,10 @@ class Tablebase:
         return 0 if table is None else table._probe(position, 0)
 
     def probe_dtz_table(self, board: Placement, wdl: int, turn: Optional[bool] = None) -> Tuple[int, int]:
-        """The number n that a DTZ table stores, which isn't the position's if a capture or pawn move decides; and 1.
+        """The number n that a DTZ table stores, not the DTZ (`probe_dtz`) if a capture or pawn move decides; and 1.
 
         It is that of the class `wdl`; `Table.probe_dtz` says what it counts. (0, -1) if the table stores the other side to
-        move only. It is what python-chess's `probe_dtz_table` returns; `probe_dtz` is the result.
+        move only. It is what python-chess's `probe_dtz_table` returns.
 
         Errors: MissingTableError, a KeyError, if no folder has the table; Untold if the table has no number, as for a
         draw; Refused; BadBlock; OSError; TypeError; ValueError for another class than -2 to 2."""

@@ -13,7 +13,7 @@ ghost use Rattle.szg_build.specs.declared.writing.dumping.StreamFault.TheVariant
 
 use crate::writing::streaming::{begin_dump, end_dump};
 use std::alloc::Global;
-use szg_file::{Ahead, ReadFault, TableIndex, WriteFault, scan};
+use szg_file::{ReadFault, TableIndex, WriteFault, scan};
 use szg_io::{Input, Output};
 
 /// Why a dump was not written whole while its file was read. A beginning of its text may have been written.
@@ -45,7 +45,7 @@ impl From<WriteFault> for StreamFault {
 /// A `scan` with `NoSink` before returns the index and the last bytes. Errors: `Changed` if the file
 /// is not that of such a table, `Input` if the reader failed, `Output` if the writer failed, `Memory` if memory was
 /// refused. A part of the text may have been written then.
-pub fn stream_dump<R: Input + Ahead, W: Output>(
+pub fn stream_dump<R: Input, W: Output>(
     alloc: Global,
     index: &TableIndex,
     last: &[u8; 16],

@@ -6,15 +6,7 @@ ghost use Rattle.szg_file.specs.Forward.{IsForward};
 
 use std::marker::Model;
 use szg_block::{Source, SourceFault};
-use szg_io::{Bytes, Input, IoFault, Std};
-
-/// A reader that accepts a hint of how many bytes are read next.
-pub trait Ahead {
-    /// Announces that the next `bytes` bytes will be read unless a check of them fails. The reader may read that
-    /// far ahead.
-    fn expect(&mut self, bytes: u64)
-        ensures same { self.new ≡ self.old };
-}
+use szg_io::{Input, IoFault};
 
 /// A device that reads the bytes of a source from the first on. It requests only bytes that are read from it,
 /// except that it may read expected bytes ahead, up to its chunk's length at a time. It makes a request only when
@@ -179,19 +171,8 @@ impl<S: Source + Drop> Input for Forward<S> {
         self.place += n as u64;
         Ok(n)
     }
-}
 
-impl<S: Source + Drop> Ahead for Forward<S> {
     fn expect(&mut self, bytes: u64) {
         self.ahead = self.place.saturating_add(bytes);
     }
-}
-
-/// A reader of std ignores the hint.
-impl<T> Ahead for Std<T> {
-    fn expect(&mut self, _bytes: u64) {}
-}
-
-impl Ahead for Bytes<'_> {
-    fn expect(&mut self, _bytes: u64) {}
 }

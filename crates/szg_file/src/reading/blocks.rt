@@ -14,7 +14,7 @@ use crate::reading::front::{Front, append};
 use crate::reading::taking::{take_fill, take_more};
 use crate::typed::code_fits;
 use std::alloc::Global;
-use szg_block::{Sub, check_block_from};
+use szg_block::{Sub, block_count, check_block_from};
 use szg_io::Input;
 
 /// Reads the blocks of each subtable that is not constant.
@@ -60,6 +60,7 @@ fn read_sub<R: Input>(
         return Ok(sub);
     }
     take_fill(alloc, 64, input, front)?;
+    input.expect(u64::from(block_count(&sub)) * block_bytes(&sub));
     let taken = take_packed(alloc, &sub, slot.size, input, front)?;
     if let Sub::Pairs { packed, .. } = &mut sub {
         *packed = taken;

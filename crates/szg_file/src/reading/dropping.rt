@@ -13,7 +13,6 @@ ghost use Rattle.szg_file.specs.Values.{slotted, values_in};
 
 use crate::begun::Measured;
 use crate::fault::{ReadFault, Reason};
-use crate::opened::forward::Ahead;
 use crate::reading::blocks::{block_bytes, is_constant};
 use crate::reading::front::{Front, append};
 use crate::reading::sink::ValueSink;
@@ -34,7 +33,7 @@ pub struct PlacedSub {
 /// Reads and checks the blocks of each subtable that is not constant, and keeps the offset of the first. The buffer
 /// grows to the longest block. The values that the sink wants are handed to it in file order. Errors: `Memory` too if
 /// the sink takes no more values.
-pub(crate) fn pass_subs<R: Input + Ahead, W, K: ValueSink<W>>(
+pub(crate) fn pass_subs<R: Input, W, K: ValueSink<W>>(
     alloc: Global,
     kind: Kind,
     list: Vec<Measured>,
@@ -65,7 +64,7 @@ pub(crate) fn pass_subs<R: Input + Ahead, W, K: ValueSink<W>>(
 
 /// Reads one subtable's blocks after their padding, and keeps the offset of the first. A constant subtable has
 /// none. The values are handed to the sink, if it wants them.
-fn pass_sub<R: Input + Ahead, W, K: ValueSink<W>>(
+fn pass_sub<R: Input, W, K: ValueSink<W>>(
     alloc: Global,
     kind: Kind,
     measured: Measured,

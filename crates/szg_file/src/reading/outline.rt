@@ -10,7 +10,6 @@ ghost use Rattle.szg_file.specs.Reading.{Reading, Lacking};
 ghost use Rattle.szg_file.specs.Streaming.{Accepted, wanted_of};
 
 use crate::fault::ReadFault;
-use crate::opened::forward::Ahead;
 use crate::reading::dropping::{PlacedSub, pass_subs};
 use crate::reading::front::Front;
 use crate::reading::parts::Parts;
@@ -34,7 +33,7 @@ pub struct Outline {
 
 /// Reads a whole file. Each block is read into the buffer, which grows to the longest. The values that the sink wants
 /// are handed to it in file order. Errors: as `read`; `Memory` too if the sink takes no more values.
-pub(crate) fn read_outline<R: Input + Ahead, W, K: ValueSink<W>>(
+pub(crate) fn read_outline<R: Input, W, K: ValueSink<W>>(
     alloc: Global,
     material: &Material,
     kind: Kind,

@@ -4,7 +4,6 @@ ghost use Rattle.szg_io.specs.Device.{HasFailed};
 ghost use Rattle.szg_file.specs.Streaming.{IsScanned};
 
 use crate::fault::ReadFault;
-use crate::opened::forward::Ahead;
 use crate::reading::front::Front;
 use crate::reading::outline::{Outline, read_outline};
 use crate::reading::sink::ValueSink;
@@ -30,7 +29,7 @@ pub struct Scanned {
 /// It reads the bytes that `read` reads and refuses what `read` refuses, but keeps one block and its values in memory at
 /// a time. A refusal may come after the sink accepted values; a scan with `NoSink` before says that none comes, if the
 /// bytes stay the same. Errors: as `read`; `Memory` too if the sink takes no more values.
-pub fn scan<R: Input + Ahead, W, K: ValueSink<W>>(
+pub fn scan<R: Input, W, K: ValueSink<W>>(
     alloc: Global,
     material: Material,
     kind: Kind,

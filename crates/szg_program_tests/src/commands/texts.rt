@@ -40,7 +40,7 @@ const STEPS: &str =
 const VERIFY: &str = "--verify Check the whole file first, and not only what the command reads";
 
 const CLASS: &str =
-    "--class <CLASS> Class of the placement for the side to move, which a DTZ table does not store; its number, the plies before the zeroing one, is that of a win unless another class is given; ignored for a WDL table [default: win] [possible values: win, cursed, draw, blessed, loss]";
+    "--class <CLASS> Class of the placement for the side to move, which a DTZ table does not store; its number, the plies before the zeroing one, is that of a win unless another class is given, and may be one ply too low if the table stores it in moves, rounded; ignored for a WDL table [default: win] [possible values: win, cursed, draw, blessed, loss]";
 
 const FORM: &str =
     "--form <FORM> Format of the dump: 1 writes a line per value, 2 a line per run of equal values [default: 2]";

@@ -16,6 +16,7 @@ returns-then-moves-len-clause-reported c =
     let value = c.len.ensures.value in
     record {
       done = λ e. let no : ◌≡◌ {A = ℕ} 4 0 = e in absurd (cc no);
-      short = λ e. omega (arith, each, many, fewer, value);
+      short = λ e. (omega (arith, each, many, fewer, value), refl);
+      stays = λ e. let no : ◌≡◌ {A = ℕ} 4 0 = e in absurd (cc no);
       lacking = λ undone other. absurd (other refl);
     }

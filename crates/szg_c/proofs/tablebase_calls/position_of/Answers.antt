@@ -1,19 +1,18 @@
-use Rattle.std.proofs.Common.{◌≡◌, ◌∙◌, ap, true, false, sym, refl}
-use Rattle.std.proofs.lemmas.Bool.{lt-ltb}
-use Rattle.std.specs.Prelude.{Err, nat_lt}
-use Rattle.std.specs.List.{list_all}
-use Rattle.szg_c.specs.Men.{is_coded_man}
-use Rattle.szg_c.specs.Tablebases.{coded_position, position_of}
-use Rattle.szg_c.proofs.TooManyMen.{too_many_men}
+use Rattle.std.proofs.Common.{◌∙◌, ap, sym}
+use Rattle.std.specs.Prelude.{Err}
+use Rattle.szg_c.proofs.PutPositions.{position_is, square_is, status_of}
 use Rattle.szg_c.proofs.tablebase_calls.position_of.Goals as goal
-use Rattle.szg_c.proofs.tablebase_calls.position_of.Goals.{then-are_coded_men, else-are_coded_men}
 
-pub returns-then-men-gt-MAX_MEN : goal.returns-then-men-gt-MAX_MEN
-unfolding position_of
-returns-then-men-gt-MAX_MEN c =
-    let many = too_many_men c.args.men.now (coded_position c.args.men.now c.args.mover c.args.en_passant) refl c.if-men-gt-MAX_MEN.true in
-    let mover : nat_lt c.args.mover 2 ≡ true = lt-ltb c.args.mover 2 c.if-mover-ge2.false in
-    elim c.if-are_coded_men.branch [
-      | then-are_coded_men w ↦ let reported : list_all is_coded_man c.args.men.now ≡ true = sym c.are_coded_men.ensures ∙ w.if-are_coded_men.true in rw (mover, reported, many) (ap Err w.result-is)
-      | else-are_coded_men w ↦ let reported : list_all is_coded_man c.args.men.now ≡ false = sym c.are_coded_men.ensures ∙ w.if-are_coded_men.false in rw (mover, reported) (ap Err w.result-is)
-    ]
+pub returns-in-Ok : goal.returns-in-Ok
+returns-in-Ok c =
+    sym (ap status_of c.in-Ok.is)
+    ∙ position_is c.args.men.now c.args.mover c.args.en_passant c.in-Some.key c.key_of_men.new.placed_men.items c.in-Some-sound_men.placement c.new.result c.of_placed_men.result
+    c.in-Some.ensures c.in-Some-sound_men.ensures (square_is c.args.en_passant c.new.result c.new.ensures.below c.new.ensures.beyond)
+    c.of_placed_men.ensures.accepted c.of_placed_men.ensures.refused
+
+pub returns-in-Err : goal.returns-in-Err
+returns-in-Err c =
+    ap Err c.position_status.ensures ∙ sym (ap status_of c.in-Err.is)
+    ∙ position_is c.args.men.now c.args.mover c.args.en_passant c.in-Some.key c.key_of_men.new.placed_men.items c.in-Some-sound_men.placement c.new.result c.of_placed_men.result
+    c.in-Some.ensures c.in-Some-sound_men.ensures (square_is c.args.en_passant c.new.result c.new.ensures.below c.new.ensures.beyond)
+    c.of_placed_men.ensures.accepted c.of_placed_men.ensures.refused

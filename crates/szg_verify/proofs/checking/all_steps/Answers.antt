@@ -13,6 +13,7 @@ loop-m-init g c = record {
   same_classes = refl;
   same_distances = refl;
   right = c.requires.right;
+  numbered = c.number_men-numbered.ensures;
   few = let e = ap length c.clear.ensures in omega (arith, e);
   so_far = none_yet (entry_after (tables_of (g.T.Tables.stored c.args.classes.now) (g.D.DtzTables.distances c.args.distances.now)) c.args.position.now) c.args.position.now c.clear.new.self.items c.clear.ensures;
 }
@@ -24,8 +25,8 @@ returns-in-Ok-None-clause-steps g c =
     let distances = g.D.DtzTables.distances c.args.distances.now in
     let before = c.loop-m.invariant in
     let none = entry_carried_at entry_after (g.T.Tables.stored c.loop-m.classes) classes (g.D.DtzTables.distances c.loop-m.distances) distances p c.m-item.result c.in-Ok-None.field-0 before.same_classes before.same_distances c.in-Ok-None.ensures.entry in
-    sym (ap (steps_to (entry_after (tables_of classes distances) p) p) (sym c.requires.moves)
-    ∙ all_stopped (entry_after (tables_of classes distances) p) p c.args.moves.now c.loop-m.m-index c.m-item.result c.loop-m-test.true c.m-item.is (none ∙ c.in-Ok-None.field-0-is))
+    sym (ap (steps_to (entry_after (tables_of classes distances) p) p) (sym (c.as_slice-m-items.ensures.value ∙ c.legal_moves-moves.ensures))
+    ∙ all_stopped (entry_after (tables_of classes distances) p) p c.as_slice-m-items.result.now c.loop-m.m-index c.m-item.result c.loop-m-test.true c.m-item.is (none ∙ c.in-Ok-None.field-0-is))
 
 pub loop-m-preserved : goal.loop-m-preserved
 loop-m-preserved g c =
@@ -39,7 +40,8 @@ loop-m-preserved g c =
       same_classes = c.entry_after.ensures.same_classes ∙ before.same_classes;
       same_distances = c.entry_after.ensures.same_distances ∙ before.same_distances;
       right = carried (λ (t : StoredTables). AreRight (kinds_of p.placed_men) t c.entry_after.new.cells) (g.T.Tables.stored c.loop-m.classes) classes (g.D.DtzTables.distances c.loop-m.distances) distances before.same_classes before.same_distances c.entry_after.ensures.right;
+      numbered = c.set_square.ensures.numbered;
       few = let few = before.few in let size = ap length items ∙ length-append c.loop-m.steps.items ((c.in-Ok-Some.entry, is_zeroing p c.m-item.result) ∷ []) in omega (arith, few, size);
-      so_far = all_pushed (entry_after (tables_of classes distances) p) p c.args.moves.now c.loop-m.m-index c.m-item.result c.loop-m-test.true c.m-item.is c.loop-m.steps.items c.push.new.self.items c.in-Ok-Some.entry
+      so_far = all_pushed (entry_after (tables_of classes distances) p) p c.as_slice-m-items.result.now c.loop-m.m-index c.m-item.result c.loop-m-test.true c.m-item.is c.loop-m.steps.items c.push.new.self.items c.in-Ok-Some.entry
           before.so_far (some ∙ c.in-Ok-Some.field-0-is) items;
     }

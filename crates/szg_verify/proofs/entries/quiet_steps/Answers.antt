@@ -15,6 +15,7 @@ loop-m-init g c = record {
   same_classes = refl;
   same_distances = refl;
   right = c.requires.right;
+  numbered = c.number_men-numbered.ensures;
   few = let e = ap length c.clear.ensures in omega (arith, e);
   so_far = none_yet (near_after (tables_of (g.T.Tables.stored c.args.classes.now) (g.D.DtzTables.distances c.args.distances.now)) c.args.position.now) c.args.position.now c.clear.new.self.items c.clear.ensures;
 }
@@ -44,6 +45,7 @@ loop-m-preserved g c =
             same_classes = ap g.T.Tables.stored w.classes-is ∙ (w.near_after.ensures.same_classes ∙ before.same_classes);
             same_distances = ap g.D.DtzTables.distances w.distances-is ∙ (w.near_after.ensures.same_distances ∙ before.same_distances);
             right = subst (AreRight (kinds_of p.placed_men) (tables_of classes distances)) (sym w.cells-is) (carried (λ (t : StoredTables). AreRight (kinds_of p.placed_men) t w.near_after.new.cells) (g.T.Tables.stored c.loop-m.classes) classes (g.D.DtzTables.distances c.loop-m.distances) distances before.same_classes before.same_distances w.near_after.ensures.right);
+            numbered = c.set_square.ensures.numbered;
             few = let few = before.few in let size = ap length items ∙ length-append c.loop-m.steps.items ((w.in-Ok-Some.entry, false) ∷ []) in omega (arith, few, size);
             so_far = quiet_pushed entry p c.args.moves.now c.loop-m.m-index c.m-item.result c.loop-m-test.true c.m-item.is c.loop-m.steps.items c.if-not-is_zeroing.steps.items w.in-Ok-Some.entry
                 (sym c.is_zeroing.ensures ∙ w.if-not-is_zeroing.true) before.so_far (some ∙ w.in-Ok-Some.field-0-is) items;
@@ -54,6 +56,7 @@ loop-m-preserved g c =
             same_classes = ap g.T.Tables.stored w.classes-is ∙ before.same_classes;
             same_distances = ap g.D.DtzTables.distances w.distances-is ∙ before.same_distances;
             right = subst (AreRight (kinds_of p.placed_men) (tables_of classes distances)) (sym w.cells-is) before.right;
+            numbered = c.set_square.ensures.numbered;
             few = let few = before.few in let size = ap length items in omega (arith, few, size);
             so_far = quiet_passed entry p c.args.moves.now c.loop-m.m-index c.m-item.result c.loop-m-test.true c.m-item.is c.loop-m.steps.items
                 (sym c.is_zeroing.ensures ∙ w.if-not-is_zeroing.false) before.so_far ∙ ap (λ (ns : List (Step Entry)). Some ns) (sym items);

@@ -1,19 +1,53 @@
-use Rattle.std.proofs.Common.{◌-◌, ◌<◌, arith, drop, length, map}
-use Rattle.szg_chess.specs.Moves.{man_after}
-use Rattle.szg_verify.specs.Memory.{digits_of}
-use Rattle.szg_verify.proofs.Kept.{digits_moved_within}
+use Rattle.std.proofs.Common.{◌≡◌, ◌<◌, ◌≤◌, ap, arith, length}
+use Rattle.std.proofs.lemmas.Nat.{mul-lt}
+use Rattle.szg_verify.specs.Memory.{digits_of, place_value}
+use Rattle.szg_verify.proofs.Kept.{digits_within, place_within, digits_changed}
 use Rattle.szg_verify.proofs.memory.digits_after.Goals as goal
 
-pub overflow_mul-digits : goal.overflow_mul-digits
-overflow_mul-digits c =
-    let men = c.args.men.now in
-    let few : digits_of (map (man_after c.args.m.now) (drop (length men - c.loop-step.step) men)) < 1073741824 = digits_moved_within 5 (length men - c.loop-step.step) c.args.m.now men c.square_after-square.ensures.to c.requires.on_board (omega arith) in
-    let e = c.loop-step.invariant in
-    omega (arith, few, e)
+pub overflow_mul-gained : goal.overflow_mul-gained
+overflow_mul-gained c =
+    let men = c.args.position.now.placed_men in
+    let size : length men ≤ 6 = let same = ap length c.men.ensures.men in let few = c.men.ensures.few in omega (arith, same, few) in
+    let value : place_value c.args.numbered.now.square men < 68719476736 = place_within 6 0 c.args.numbered.now.square men size in
+    let is = c.requires.numbered.value in
+    let below : c.from.result < 64 = omega arith in
+    let few = mul-lt c.args.numbered.now.place c.from.result 68719476736 64 (omega (arith, value, is)) below in
+    omega (arith, few)
 
-pub overflow_add-digits : goal.overflow_add-digits
-overflow_add-digits c =
-    let men = c.args.men.now in
-    let few : digits_of (map (man_after c.args.m.now) (drop (length men - c.loop-step.step) men)) < 1073741824 = digits_moved_within 5 (length men - c.loop-step.step) c.args.m.now men c.square_after-square.ensures.to c.requires.on_board (omega arith) in
-    let e = c.loop-step.invariant in
-    omega (arith, few, e)
+pub overflow_mul-lost : goal.overflow_mul-lost
+overflow_mul-lost c =
+    let men = c.args.position.now.placed_men in
+    let size : length men ≤ 6 = let same = ap length c.men.ensures.men in let few = c.men.ensures.few in omega (arith, same, few) in
+    let value : place_value c.args.numbered.now.square men < 68719476736 = place_within 6 0 c.args.numbered.now.square men size in
+    let is = c.requires.numbered.value in
+    let below : c.from-2.result < 64 = omega arith in
+    let few = mul-lt c.args.numbered.now.place c.from-2.result 68719476736 64 (omega (arith, value, is)) below in
+    omega (arith, few)
+
+pub overflow_add-result : goal.overflow_add-result
+overflow_add-result c =
+    let men = c.args.position.now.placed_men in
+    let size : length men ≤ 6 = let same = ap length c.men.ensures.men in let few = c.men.ensures.few in omega (arith, same, few) in
+    let value : place_value c.args.numbered.now.square men < 68719476736 = place_within 6 0 c.args.numbered.now.square men size in
+    let is = c.requires.numbered.value in
+    let below : c.from.result < 64 = omega arith in
+    let few = mul-lt c.args.numbered.now.place c.from.result 68719476736 64 (omega (arith, value, is)) below in
+    let all : digits_of men < 68719476736 = digits_within 6 0 men c.men.ensures.position.squares.men size in
+    let before = c.requires.numbered.number in
+    omega (arith, few, all, before)
+
+pub overflow_sub-result : goal.overflow_sub-result
+overflow_sub-result c =
+    let from : c.from-2.result ≡ c.args.m.now.from = omega arith in
+    let to : c.from.result ≡ c.args.m.now.to = omega arith in
+    let moved = digits_changed c.args.m.now c.args.position.now.placed_men c.args.numbered.now.digits c.args.numbered.now.square c.args.numbered.now.place c.from-2.result c.from.result
+    c.requires.numbered.number c.requires.numbered.value c.requires.from from to in
+    omega (arith, moved)
+
+pub returns : goal.returns
+returns c =
+    let from : c.from-2.result ≡ c.args.m.now.from = omega arith in
+    let to : c.from.result ≡ c.args.m.now.to = omega arith in
+    let moved = digits_changed c.args.m.now c.args.position.now.placed_men c.args.numbered.now.digits c.args.numbered.now.square c.args.numbered.now.place c.from-2.result c.from.result
+    c.requires.numbered.number c.requires.numbered.value c.requires.from from to in
+    omega (arith, moved)

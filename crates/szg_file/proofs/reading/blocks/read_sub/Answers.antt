@@ -28,7 +28,8 @@ returns-in_err-taken-clause-blocks g c =
     let m = c.measured.inside in
     let sized : c.slot.inside.size ≡ m.slot.size = ap (λ (s : Slot). s.size) c.slot.view_is in
     let some : layout_of m.sub ≡ None → ⊥ = λ e. let t = c.is_constant.ensures.1 e in cc in
-    rw (p.1, p.2, ← c.measured.view_is) (reads_sub_stopped m.slot c.slot.inside.size m.sub c.in_err-taken.field-0.0 sized some c.in_ok-take_fill.ensures.fill c.in_err-taken.ensures.blocks)
+    let taken = rw c.expect.ensures.same at c.in_err-taken.ensures.blocks in
+    rw (p.1, p.2, ← c.measured.view_is) (reads_sub_stopped m.slot c.slot.inside.size m.sub c.in_err-taken.field-0.0 sized some c.in_ok-take_fill.ensures.fill taken)
 
 pub returns-clause-blocks : goal.returns-clause-blocks
 returns-clause-blocks g c =
@@ -40,4 +41,5 @@ returns-clause-blocks g c =
       | in-Pairs w ↦ rw (w.sub-is, w.in-Pairs.is) refl
       | in_default w ↦ rw (w.sub-is, w.in_default.is) refl
     ] in
-    rw (← c.measured.view_is) (reads_sub m.slot c.slot.inside.size m.sub c.match-sub-3.sub c.in_ok-taken.taken sized some held c.in_ok-take_fill.ensures.fill c.in_ok-taken.ensures.blocks)
+    let taken = rw c.expect.ensures.same at c.in_ok-taken.ensures.blocks in
+    rw (← c.measured.view_is) (reads_sub m.slot c.slot.inside.size m.sub c.match-sub-3.sub c.in_ok-taken.taken sized some held c.in_ok-take_fill.ensures.fill taken)

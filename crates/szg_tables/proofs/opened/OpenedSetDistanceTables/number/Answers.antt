@@ -1,8 +1,8 @@
-use Rattle.std.proofs.Common.{refl}
-use Rattle.std.specs.Prelude.{None}
+use Rattle.std.proofs.Common.{◌≡◌, List, refl, subst}
+use Rattle.std.specs.Prelude.{IfSome, None, Some, option_and_then, slice_get}
 use Rattle.szg_values.specs.Placement.{material_of}
 use Rattle.szg_values.specs.declared.Kind.TheVariants.{Dtz}
-use Rattle.szg_tables.specs.Opened.{opened_classes, opened_numbers}
+use Rattle.szg_tables.specs.Opened.{IsReasonIn, number_in, opened_classes, opened_numbers}
 use Rattle.szg_tables.specs.Stored.{board_of}
 use Rattle.szg_tables.specs.declared.MissingReason.TheVariants.{Table}
 use Rattle.szg_tables.proofs.OpenedSets.{number_by_table, reason_at, reason_nowhere}
@@ -25,7 +25,7 @@ returns-in-Err-clause-fault g c =
     let board = c.in-Some.men in
     let is = placed_is men mover c.placed_men.result board c.placed_men.ensures.placed c.requires c.in-Some.is in
     is_missing Dtz c.missing-in-Err.result c.in-Err.reason (opened_classes g.T.OpenTable.opened c.args.self.now) (opened_numbers g.T.OpenTable.opened c.args.self.now) men mover (board_of men mover) refl c.missing-in-Err.ensures
-    (c.args.class, number_by_table g.T.OpenTable.opened c.args.self.now men mover board is c.args.class _ _ c.in-Some-find.ensures.found c.in-Err.ensures.none)
+    (c.args.class, number_by_table g.T.OpenTable.opened c.args.self.now men mover board is c.args.class _ _ c.in-Some-find.ensures.found (subst (λ (tables : List _). option_and_then (λ t. number_in board c.args.class (g.T.OpenTable.opened t)) (slice_get tables c.in-Some-find.n) ≡ None) c.find.ensures.same c.in-Err.ensures.none))
 
 pub returns-in-Ok-clause-number : goal.returns-in-Ok-clause-number
 returns-in-Ok-clause-number g c =
@@ -33,7 +33,7 @@ returns-in-Ok-clause-number g c =
     let mover = c.args.position.now.mover in
     let board = c.in-Some.men in
     let is = placed_is men mover c.placed_men.result board c.placed_men.ensures.placed c.requires c.in-Some.is in
-    number_by_table g.T.OpenTable.opened c.args.self.now men mover board is c.args.class _ _ c.in-Some-find.ensures.found c.in-Ok.ensures.number
+    number_by_table g.T.OpenTable.opened c.args.self.now men mover board is c.args.class _ _ c.in-Some-find.ensures.found (subst (λ (tables : List _). option_and_then (λ t. number_in board c.args.class (g.T.OpenTable.opened t)) (slice_get tables c.in-Some-find.n) ≡ Some c.in-Ok.number) c.find.ensures.same c.in-Ok.ensures.number)
 
 pub returns-in-None-clause-none : goal.returns-in-None-clause-none
 returns-in-None-clause-none g c =
@@ -49,7 +49,7 @@ returns-in-Err-clause-none g c =
     let mover = c.args.position.now.mover in
     let board = c.in-Some.men in
     let is = placed_is men mover c.placed_men.result board c.placed_men.ensures.placed c.requires c.in-Some.is in
-    number_by_table g.T.OpenTable.opened c.args.self.now men mover board is c.args.class _ _ c.in-Some-find.ensures.found c.in-Err.ensures.none
+    number_by_table g.T.OpenTable.opened c.args.self.now men mover board is c.args.class _ _ c.in-Some-find.ensures.found (subst (λ (tables : List _). option_and_then (λ t. number_in board c.args.class (g.T.OpenTable.opened t)) (slice_get tables c.in-Some-find.n) ≡ None) c.find.ensures.same c.in-Err.ensures.none)
 
 pub returns-in-None-clause-reason : goal.returns-in-None-clause-reason
 returns-in-None-clause-reason g c =
@@ -65,4 +65,5 @@ returns-in-Err-clause-reason g c =
     let mover = c.args.position.now.mover in
     let board = c.in-Some.men in
     let is = placed_is men mover c.placed_men.result board c.placed_men.ensures.placed c.requires c.in-Some.is in
-    reason_at g.T.OpenTable.opened g.T.OpenTable.explains Dtz c.args.self.now men mover board is c.missing-in-Err.result (material_of men) c.in-Some-find.n c.in-Err.reason c.missing-in-Err.ensures c.in-Some-find.ensures.found c.in-Some-find.ensures.kind c.in-Err.ensures.reason
+    reason_at g.T.OpenTable.opened g.T.OpenTable.explains Dtz c.args.self.now men mover board is c.missing-in-Err.result (material_of men) c.in-Some-find.n c.in-Err.reason c.missing-in-Err.ensures c.in-Some-find.ensures.found c.in-Some-find.ensures.kind
+    (subst (λ (tables : List _). IfSome (slice_get tables c.in-Some-find.n) (λ t. IsReasonIn (g.T.OpenTable.explains t) board (g.T.OpenTable.opened t) c.in-Err.reason)) c.find.ensures.same c.in-Err.ensures.reason)

@@ -8,7 +8,7 @@ use Rattle.szg_chess.specs.declared.FenRecord.{FenRecord}
 use Rattle.szg_chess.specs.declared.PositionFault.{PositionFault}
 use Rattle.szg_c.specs.Fens.{fen_result, record_unless}
 use Rattle.szg_c.specs.Tablebases.{position_status}
-use Rattle.szg_c.proofs.fens.szg_read_fen.Goals as goal
+use Rattle.szg_c.proofs.fens.said_by.Goals as goal
 
 -- what the parser returns, with a status for its fault
 abbrev or_status : Result FenRecord PositionFault → Result FenRecord ℕ
@@ -30,18 +30,17 @@ no_text text not_utf = elim (cases_Bool (is_utf8 text)) [
   | inr f ↦ rw f refl
 ]
 
-pub returns-in_default-clause-read : goal.returns-in_default-clause-read
-returns-in_default-clause-read c =
-    let e = no_text c.args.text.now (rw c.in_default.is at c.from_utf8.ensures.cases).0 in rw e refl
+pub returns-in_default : goal.returns-in_default
+returns-in_default c = sym (no_text c.args.text.now (rw c.in_default.is at c.from_utf8.ensures.cases).0)
 
-pub returns-in-Ok-parse_fen-clause-read : goal.returns-in-Ok-parse_fen-clause-read
-returns-in-Ok-parse_fen-clause-read c =
+pub returns-in-Ok-parse_fen : goal.returns-in-Ok-parse_fen
+returns-in-Ok-parse_fen c =
     let same = c.in-Ok.ensures.cases.0 in
     let e = ap fen_result (sym same) ∙ read_text c.in-Ok.fen.now c.parse_fen.result (subst IsUtf8 (sym same) c.in-Ok.ensures.cases.1) c.parse_fen.ensures.accepted c.parse_fen.ensures.refused in
-    rw (e, c.in-Ok-parse_fen.is) (c.write_position.ensures.done, c.write_position.ensures.read)
+    rw (e, c.in-Ok-parse_fen.is) refl
 
-pub returns-in-Err-clause-read : goal.returns-in-Err-clause-read
-returns-in-Err-clause-read c =
+pub returns-in-Err : goal.returns-in-Err
+returns-in-Err c =
     let same = c.in-Ok.ensures.cases.0 in
     let e = ap fen_result (sym same) ∙ read_text c.in-Ok.fen.now c.parse_fen.result (subst IsUtf8 (sym same) c.in-Ok.ensures.cases.1) c.parse_fen.ensures.accepted c.parse_fen.ensures.refused in
-    rw (e, c.in-Err.is) c.position_status.ensures
+    rw (e, c.in-Err.is) (ap Err c.position_status.ensures)

@@ -1,7 +1,7 @@
 use Rattle.std.proofs.Common.{◌≡◌, drop}
 use Rattle.std.specs.List.{list_any}
 use Rattle.szg_verify.specs.Entries.{wins_at_once}
-use Rattle.szg_verify.proofs.entries.has_win_at_once.Given as goal
+use Rattle.szg_verify.proofs.entries.some_wins.Given as goal
 
 abbrev pub invariant-loop-m : goal.invariant-loop-m
 invariant-loop-m g l = record {
