@@ -77,8 +77,8 @@ def ask():
 threads = [threading.Thread(target=ask) for _ in range(6)]
 for thread in threads:
     thread.start()
-statuses = []
-for _ in range(150):
+statuses, end = [], time.monotonic() + 40
+while len(statuses) < 150 and (time.monotonic() < end or len(statuses) < 5):
     child = os.fork()
     if not child:
         signal.alarm(10)
@@ -88,7 +88,7 @@ for _ in range(150):
 is_over = True
 for thread in threads:
     thread.join()
-assert statuses == [0] * 150, statuses
+assert not any(statuses), statuses
 """, seconds=120)
 
 
