@@ -1,9 +1,7 @@
 -- The value that a block's words spell at an index.
-use Rattle.std.proofs.Common.{ℕ, ◌≡◌, ◌+◌, ◌-◌, ◌<◌, ◌≤◌, inl, inr, List, Option, None, Some, length, ap, sym, ◌∙◌, arith}
-use Rattle.std.specs.Prelude.{IfErr, IfOk, IsSomeAnd, OnOk, Result, Ok, Err}
+use Rattle.std.proofs.Common.{ℕ, ◌≡◌, ◌-◌, ◌<◌, ◌≤◌, List, Option, None, Some, ap, sym, ◌∙◌, arith}
+use Rattle.std.specs.Prelude.{IsSomeAnd}
 use Rattle.std.specs.List.{slice_get, slice_index}
-use Rattle.std.proofs.lemmas.Bool.{cases_lt}
-use Rattle.std.proofs.lemmas.Option.{slice_get_past}
 use Rattle.szg_code.specs.Bits.{bits}
 use Rattle.szg_block.specs.Layout.{Layout}
 use Rattle.szg_block.specs.Block.{start, needed, block_values}
@@ -20,13 +18,6 @@ module _ (layout : Layout) (block : List ℕ) (at : ℕ) where
       → Some value ≡ slice_get (block_values layout block) at
   spelled_at value item e h =
       sym (ap (λ n. slice_get (block_values layout block) n) (sym e) ∙ ap (λ u. slice_get u item) (block_values-spelled layout block) ∙ h)
-
-  pub unspelled_at : (item : ℕ) → item ≡ at → (item + 1 ≤ length (values_spelled layout.code layout.entries (bits block)) → ⊥)
-      → None ≡ slice_get (block_values layout block) at
-  unspelled_at item e h =
-      let few : length (values_spelled layout.code layout.entries (bits block)) ≤ item =
-      elim (cases_lt item (length (values_spelled layout.code layout.entries (bits block)))) [ inl less ↦ absurd (h (omega arith)) | inr more ↦ more ] in
-      sym (ap (λ n. slice_get (block_values layout block) n) (sym e) ∙ ap (λ u. slice_get u item) (block_values-spelled layout block) ∙ slice_get_past _ item few)
 
 -- where value i is, if the lengths sum to all values: an existing block, and an index among the values that it
 -- needs
@@ -56,28 +47,14 @@ held_at (Pairs flags block_bits span_bits extra blocks code dict sparse lengths 
     }
 
 module _ (size i block item : ℕ) where
-  pub held_there : (o : Option Layout) → IsSomeAnd o (λ layout. IsHeldAt layout size i block item) → IsSomeAnd o (λ layout. block < layout.blocks)
-  held_there None h = absurd h
-  held_there (Some layout) h = h.there
-
   pub held_within : (o : Option Layout) → IsSomeAnd o (λ layout. IsHeldAt layout size i block item) → item ≤ i
   held_within None h = absurd h
   held_within (Some layout) h = h.within
 
+  pub held_there : (o : Option Layout) → IsSomeAnd o (λ layout. IsHeldAt layout size i block item) → IsSomeAnd o (λ layout. block < layout.blocks)
+  held_there None h = absurd h
+  held_there (Some layout) h = h.there
+
   pub held_before : (o : Option Layout) → IsSomeAnd o (λ layout. IsHeldAt layout size i block item) → IsSomeAnd o (λ layout. i - item ≡ start layout.lengths block)
   held_before None h = absurd h
   held_before (Some layout) h = h.before
-
--- ---- clauses of one result
-
-pub ok_with : {X E : Type 0} (r : Result X E) (P : Type 0) → P → OnOk r P
-ok_with (Ok x) P h = h
-ok_with (Err e) P h = tt
-
-pub ok_map : {X E : Type 0} (r : Result X E) (P Q : X → Type 0) → IfOk r P → ((x : X) → P x → Q x) → IfOk r Q
-ok_map (Ok x) P Q h f = f x h
-ok_map (Err e) P Q h f = tt
-
-pub err_map : {X E : Type 0} (r : Result X E) (P Q : E → Type 0) → IfErr r P → ((e : E) → P e → Q e) → IfErr r Q
-err_map (Ok x) P Q h f = tt
-err_map (Err e) P Q h f = f e h

@@ -6,10 +6,9 @@ ghost use Rattle.szg_block.specs.Sound.{SpellsNeeded};
 ghost use Rattle.szg_block.specs.Steps.{block_location};
 ghost use Rattle.szg_block.specs.Subtable.{layout_of, HasSoundIndex, IsShapedHead};
 
-use crate::lengths::needed_from;
 use crate::probing::ValueLocation;
 use crate::words::{find_up_to, find_verified};
-use crate::{Sub, SubFault};
+use crate::{Sub, SubFault, needed_in};
 
 /// Returns the value at a location in its block, of which no more words are decoded than up to the value. Unless the
 /// block has `passed` before, it verifies that the block's own bits spell `needed` values.
@@ -70,17 +69,11 @@ pub fn checked_value(
     ensures value { IfOk result (λ value. IfSome (layout_of sub.now) (λ layout. slice_get (block_values layout block.now) (block_location layout i).item ≡ Some value)) }
     ensures fault { IfErr result (λ fault. IfSome (layout_of sub.now) (λ layout. (fault ≡ SubFault.Word (block_location layout i).list) × ¬ SpellsNeeded layout size (block_location layout i).list block.now)) }
 {
-    let Sub::Pairs {
-        code,
-        dict,
-        lengths,
-        ..
-    } = sub
-    else {
+    let Sub::Pairs { code, dict, .. } = sub else {
         unreachable!()
     };
     prove_eq!(code.symbols(), dict.symbols());
-    let needed = needed_from(lengths[location.block as usize], size, i - location.item);
+    let needed = needed_in(sub, size, location.block, i - location.item);
     match find_verified(code, dict, block, location.item, needed) {
         Some(value) => Ok(value),
         None => Err(SubFault::Word(location.block)),

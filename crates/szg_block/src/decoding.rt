@@ -5,9 +5,8 @@ ghost use Rattle.szg_block.specs.Block.{block_values, needed, start};
 ghost use Rattle.szg_block.specs.Sound.{SpellsNeeded};
 ghost use Rattle.szg_block.specs.Subtable.{layout_of, IsShapedHead};
 
-use crate::Sub;
-use crate::lengths::needed_from;
 use crate::words::push_values;
+use crate::{Sub, needed_in};
 use std::alloc::AllocError;
 
 /// Decodes block `n` of a subtable with `size` values, and appends the values that the block needs to `values`. `block`
@@ -28,16 +27,10 @@ pub fn decode_block(
     requires spelled { IsSomeAnd (layout_of sub.now) (λ layout. SpellsNeeded layout size n block.now) }
     ensures { OnOk result (IfSome (layout_of sub.now) (λ layout. values.new.items ≡ values.old.items ++ take (needed layout.lengths size n) (block_values layout block.now))) }
 {
-    let Sub::Pairs {
-        code,
-        dict,
-        lengths,
-        ..
-    } = sub
-    else {
+    let Sub::Pairs { code, dict, .. } = sub else {
         unreachable!()
     };
     prove_eq!(code.symbols(), dict.symbols());
-    let needed = needed_from(lengths[n as usize], size, before);
+    let needed = needed_in(sub, size, n, before);
     Ok(push_values(code, dict, block, needed, values)?)
 }

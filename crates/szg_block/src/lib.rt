@@ -8,7 +8,7 @@
 #![tactic(auto)]
 
 ghost use Rattle.std.specs.Prelude.{◌≡◌, ◌<◌, ◌≤◌, ◌↔◌, ◌^◌, ◌/◌, ◌%◌, IsTrue, IfErr, IfNone, IfSome, IsSomeAnd, OnOk, length};
-ghost use Rattle.szg_block.specs.Block.{start};
+ghost use Rattle.szg_block.specs.Block.{needed, start};
 ghost use Rattle.szg_block.specs.Sound.{SpellsNeeded, entry_count as entry_count_of};
 ghost use Rattle.szg_block.specs.Subtable.{layout_of, packed_of, IsShaped, IsShapedHead, IsSoundOver, HasSoundIndex, IsFaultOf, IsIndexFault};
 ghost use Rattle.szg_block.specs.Views.{IsSound};
@@ -219,6 +219,20 @@ pub fn check_index(sub: &Sub, size: u64) -> Result<(), SubFault>
     }
 }
 
+/// Returns the number of values that block `n` of a subtable with `size` values needs. `before` is the number of values
+/// before the block.
+fn needed_in(sub: &Sub, size: u64, n: u32, before: u64) -> u64
+    requires head { IsShapedHead sub.now size }
+    requires there { IsSomeAnd (layout_of sub.now) (λ layout. n < layout.blocks) }
+    requires before { IsSomeAnd (layout_of sub.now) (λ layout. before ≡ start layout.lengths n) }
+    ensures { IsSomeAnd (layout_of sub.now) (λ layout. result ≡ needed layout.lengths size n) }
+{
+    let Sub::Pairs { lengths, .. } = sub else {
+        unreachable!()
+    };
+    needed_from(lengths[n as usize], size, before)
+}
+
 /// Checks that block `n`, whose bytes are `block`, decodes to at least as many values as it needs. Only the block's own
 /// bits count: no word runs on into the next block. The subtable has `size` values and is not constant, `n` is one of
 /// its blocks, and `block` has the length of its blocks.
@@ -254,17 +268,11 @@ pub fn check_block_from(
     ensures ok { OnOk result (IsSomeAnd (layout_of sub.now) (λ layout. SpellsNeeded layout size n block.now)) }
     ensures fault { IfErr result (λ fault. (fault ≡ SubFault.Word n) × IsSomeAnd (layout_of sub.now) (λ layout. ¬ SpellsNeeded layout size n block.now)) }
 {
-    let Sub::Pairs {
-        code,
-        dict,
-        lengths,
-        ..
-    } = sub
-    else {
+    let Sub::Pairs { code, dict, .. } = sub else {
         unreachable!()
     };
     prove_eq!(code.symbols(), dict.symbols());
-    let needed = needed_from(lengths[n as usize], size, before);
+    let needed = needed_in(sub, size, n, before);
     if spells(code, dict, block, needed) {
         Ok(())
     } else {

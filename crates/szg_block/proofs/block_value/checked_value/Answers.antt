@@ -1,11 +1,7 @@
-use Rattle.std.proofs.Common.{◌≡◌, ℕ, ◌+◌, ◌-◌, min, refl, sym, ap, subst, ◌∙◌, arith}
-use Rattle.std.specs.List.{slice_index}
-use Rattle.std.proofs.lemmas.List.{get_or_read}
-use Rattle.szg_block.specs.Block.{needed}
-use Rattle.szg_block.specs.Sound.{SpellsNeeded}
+use Rattle.std.proofs.Common.{refl, sym, arith}
 use Rattle.szg_block.specs.Subtable.{layout_of, layout_from}
-use Rattle.szg_block.proofs.Parts.{needed_spelled, spelled_needed, count-needed}
-use Rattle.szg_block.proofs.BlockValueLaws.{err_map, held_at, held_within, ok_map, ok_with, spelled_at}
+use Rattle.szg_block.proofs.Parts.{needed_spelled, spelled_needed}
+use Rattle.szg_block.proofs.BlockValueLaws.{held_at, held_before, held_there, held_within, spelled_at}
 use Rattle.szg_block.proofs.block_value.checked_value.Goals as goal
 
 pub overflow_sub-i : goal.overflow_sub-i
@@ -13,32 +9,26 @@ overflow_sub-i c =
     held_within c.args.size c.args.i c.args.location.block c.args.location.item (layout_of c.args.sub.now)
     (held_at c.args.sub.now c.args.size c.args.i c.args.location.block c.args.location.item c.requires.head c.requires.index c.requires.below c.requires.at_block c.requires.at_item)
 
-pub index-requires : goal.index-requires
-index-requires c =
-    let shape = rw c.in-Pairs.is at c.requires.head in
-    let held = rw c.in-Pairs.is at (held_at c.args.sub.now c.args.size c.args.i c.args.location.block c.args.location.item c.requires.head c.requires.index c.requires.below c.requires.at_block c.requires.at_item) in
-    omega (arith, held.there, shape.1.lengths)
+pub needed_in-needed-requires-clause-there : goal.needed_in-needed-requires-clause-there
+needed_in-needed-requires-clause-there c =
+    held_there c.args.size c.args.i c.args.location.block c.args.location.item (layout_of c.args.sub.now)
+    (held_at c.args.sub.now c.args.size c.args.i c.args.location.block c.args.location.item c.requires.head c.requires.index c.requires.below c.requires.at_block c.requires.at_item)
+
+pub needed_in-needed-requires-clause-before : goal.needed_in-needed-requires-clause-before
+needed_in-needed-requires-clause-before c =
+    held_before c.args.size c.args.i c.args.location.block c.args.location.item (layout_of c.args.sub.now)
+    (held_at c.args.sub.now c.args.size c.args.i c.args.location.block c.args.location.item c.requires.head c.requires.index c.requires.below c.requires.at_block c.requires.at_item)
 
 pub find_verified-requires-clause-within : goal.find_verified-requires-clause-within
 find_verified-requires-clause-within c =
-    let layout = layout_from c.in-Pairs.block_bits c.in-Pairs.span_bits c.in-Pairs.extra c.in-Pairs.blocks c.in-Pairs.code c.in-Pairs.dict c.in-Pairs.sparse.items c.in-Pairs.lengths.items in
-    let shape = rw c.in-Pairs.is at c.requires.head in
+    let needs = rw c.in-Pairs.is at c.needed_in-needed.ensures in
     let held = rw c.in-Pairs.is at (held_at c.args.sub.now c.args.size c.args.i c.args.location.block c.args.location.item c.requires.head c.requires.index c.requires.below c.requires.at_block c.requires.at_item) in
-    let r : c.index.result.now ≡ slice_index c.in-Pairs.lengths.items c.args.location.block = get_or_read c.in-Pairs.lengths.items _ _ (omega (arith, shape.1.lengths, held.there)) c.index.ensures 0 in
-    let e : c.needed_from-needed.result ≡ min (slice_index c.in-Pairs.lengths.items c.args.location.block + 1) (c.args.size - (c.args.i - c.args.location.item)) = c.needed_from-needed.ensures ∙ ap (λ k. min (k + 1) (c.args.size - (c.args.i - c.args.location.item))) r in
-    let needs : c.needed_from-needed.result ≡ needed c.in-Pairs.lengths.items c.args.size c.args.location.block =
-    count-needed c.in-Pairs.code c.in-Pairs.dict c.in-Pairs.lengths.items c.args.size c.args.location.block (c.args.i - c.args.location.item) c.needed_from-needed.result c.args.block.now c.args.block.now e held.before refl in
     omega (arith, needs, held.inside)
 
 pub returns-in-Some-clause-verified : goal.returns-in-Some-clause-verified
 returns-in-Some-clause-verified c =
     let layout = layout_from c.in-Pairs.block_bits c.in-Pairs.span_bits c.in-Pairs.extra c.in-Pairs.blocks c.in-Pairs.code c.in-Pairs.dict c.in-Pairs.sparse.items c.in-Pairs.lengths.items in
-    let shape = rw c.in-Pairs.is at c.requires.head in
-    let held = rw c.in-Pairs.is at (held_at c.args.sub.now c.args.size c.args.i c.args.location.block c.args.location.item c.requires.head c.requires.index c.requires.below c.requires.at_block c.requires.at_item) in
-    let r : c.index.result.now ≡ slice_index c.in-Pairs.lengths.items c.args.location.block = get_or_read c.in-Pairs.lengths.items _ _ (omega (arith, shape.1.lengths, held.there)) c.index.ensures 0 in
-    let e : c.needed_from-needed.result ≡ min (slice_index c.in-Pairs.lengths.items c.args.location.block + 1) (c.args.size - (c.args.i - c.args.location.item)) = c.needed_from-needed.ensures ∙ ap (λ k. min (k + 1) (c.args.size - (c.args.i - c.args.location.item))) r in
-    let needs : c.needed_from-needed.result ≡ needed c.in-Pairs.lengths.items c.args.size c.args.location.block =
-    count-needed c.in-Pairs.code c.in-Pairs.dict c.in-Pairs.lengths.items c.args.size c.args.location.block (c.args.i - c.args.location.item) c.needed_from-needed.result c.args.block.now c.args.block.now e held.before refl in
+    let needs = rw c.in-Pairs.is at c.needed_in-needed.ensures in
     let enough = c.in-Some.ensures.enough in
     let at = rw c.in-Pairs.is at c.requires.at_block in
     rw (c.in-Pairs.is, ← at) (needed_spelled layout c.args.size c.args.location.block c.args.block.now (omega (arith, needs, enough)))
@@ -51,11 +41,6 @@ returns-in-Some-clause-value c =
 pub returns-in-None-clause-fault : goal.returns-in-None-clause-fault
 returns-in-None-clause-fault c =
     let layout = layout_from c.in-Pairs.block_bits c.in-Pairs.span_bits c.in-Pairs.extra c.in-Pairs.blocks c.in-Pairs.code c.in-Pairs.dict c.in-Pairs.sparse.items c.in-Pairs.lengths.items in
-    let shape = rw c.in-Pairs.is at c.requires.head in
-    let held = rw c.in-Pairs.is at (held_at c.args.sub.now c.args.size c.args.i c.args.location.block c.args.location.item c.requires.head c.requires.index c.requires.below c.requires.at_block c.requires.at_item) in
-    let r : c.index.result.now ≡ slice_index c.in-Pairs.lengths.items c.args.location.block = get_or_read c.in-Pairs.lengths.items _ _ (omega (arith, shape.1.lengths, held.there)) c.index.ensures 0 in
-    let e : c.needed_from-needed.result ≡ min (slice_index c.in-Pairs.lengths.items c.args.location.block + 1) (c.args.size - (c.args.i - c.args.location.item)) = c.needed_from-needed.ensures ∙ ap (λ k. min (k + 1) (c.args.size - (c.args.i - c.args.location.item))) r in
-    let needs : c.needed_from-needed.result ≡ needed c.in-Pairs.lengths.items c.args.size c.args.location.block =
-    count-needed c.in-Pairs.code c.in-Pairs.dict c.in-Pairs.lengths.items c.args.size c.args.location.block (c.args.i - c.args.location.item) c.needed_from-needed.result c.args.block.now c.args.block.now e held.before refl in
+    let needs = rw c.in-Pairs.is at c.needed_in-needed.ensures in
     let at = rw c.in-Pairs.is at c.requires.at_block in
     rw (c.in-Pairs.is, ← at) (refl, λ h. c.in-None.ensures.few (omega (arith, needs, spelled_needed layout c.args.size c.args.location.block c.args.block.now c.symbols.ensures.accepted h)))
