@@ -18,10 +18,10 @@ abbrev pub sealed_text : {R F D : Type 0} → Sealed R F D → List ℕ
 sealed_text sealed = written_of sealed.file
 
 abbrev pub draft_target : {R F D : Type 0} → Draft R F D → List ℕ
-draft_target draft = draft.target.now
+draft_target draft = draft.renaming.target.now
 
 abbrev pub sealed_target : {R F D : Type 0} → Sealed R F D → List ℕ
-sealed_target sealed = sealed.target.now
+sealed_target sealed = sealed.renaming.target.now
 
 abbrev pub published_target : Published → List ℕ
 published_target published = published.target.now

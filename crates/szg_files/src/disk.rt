@@ -163,13 +163,13 @@ impl<'a, R: Files, P: ReadWatcher> Disk<'a, R, P> {
 }
 
 impl<'a, F: Read + Seek + OpenFile, P: ReadWatcher> SystemFile<'a, F, P> {
-    /// Reads a range of the file, which is to have `size` bytes.
-    fn read_range(&mut self, size: u64, offset: u64, bytes: &mut [u8]) -> Result<(), RangeFault> {
-        if self.file.metadata()?.len() != size {
+    /// Reads a range of the file, which is to have `len` bytes.
+    fn read_range(&mut self, len: u64, at: u64, out: &mut [u8]) -> Result<(), RangeFault> {
+        if self.file.metadata()?.len() != len {
             return Err(RangeFault::Ended);
         }
-        self.file.seek(SeekFrom::Start(offset))?;
-        Ok(self.read_exact(bytes)?)
+        self.file.seek(SeekFrom::Start(at))?;
+        Ok(self.read_exact(out)?)
     }
 }
 
@@ -248,18 +248,12 @@ impl<'a, R: Files, P: ReadWatcher> FileSystem for Disk<'a, R, P> {
         Ok(Std::new(reader))
     }
 
-    fn read_at(
-        &mut self,
-        path: &str,
-        size: u64,
-        offset: u64,
-        bytes: &mut [u8],
-    ) -> Result<(), RangeFault> {
+    fn read_at(&mut self, path: &str, len: u64, at: u64, out: &mut [u8]) -> Result<(), RangeFault> {
         let number = match self.kept_at(path) {
             Ok(number) => number,
             Err(fault) => return Err(RangeFault::Failed(fault)),
         };
-        let read = self.kept[number].file.read_range(size, offset, bytes);
+        let read = self.kept[number].file.read_range(len, at, out);
         if read.is_err() {
             self.kept.swap_remove(number);
         }

@@ -48,18 +48,29 @@ pub type DraftFile<F> = Std<BufWriter<Monitored<F>>>;
 pub struct Draft<'a, R: Files> {
     /// The writer.
     pub file: DraftFile<R::File>,
-    files: &'a R,
-    path: String,
-    target: &'a str,
+    renaming: Renaming<'a, R>,
 }
 
 /// A temporary file that is complete and flushed to the disk.
 pub struct Sealed<'a, R: Files> {
     // it stays open, and so locked
     file: Monitored<R::File>,
+    renaming: Renaming<'a, R>,
+}
+
+/// The path of a temporary file, and the target that it is to be renamed to.
+#[derive(Drop)]
+struct Renaming<'a, R: Files> {
     files: &'a R,
     path: String,
     target: &'a str,
+}
+
+impl<'a, R: Files> Renaming<'a, R> {
+    /// Removes the temporary file.
+    fn remove(&self) {
+        let _ = self.files.remove_file(self.path.as_str());
+    }
 }
 
 /// A sealed file was renamed to the target, which has these bytes.
@@ -177,15 +188,18 @@ impl<'a, R: Files> Draft<'a, R> {
             Err(error) => return Err(FileFault::System(error)),
         }
         let (file, path) = create_beside(alloc, files, target)?;
+        let renaming = Renaming {
+            files,
+            path,
+            target,
+        };
         match BufWriter::with_capacity(alloc, BUFFER, Monitored::new(file)) {
             Ok(writer) => Ok(Draft {
                 file: Std::new(writer),
-                files,
-                path,
-                target,
+                renaming,
             }),
             Err(_) => {
-                let _ = files.remove_file(path.as_str());
+                renaming.remove();
                 Err(FileFault::Memory)
             }
         }
@@ -193,14 +207,9 @@ impl<'a, R: Files> Draft<'a, R> {
 
     /// Removes the temporary file.
     pub fn discard(self) {
-        let Draft {
-            file,
-            files,
-            path,
-            target: _,
-        } = self;
+        let Draft { file, renaming } = self;
         // before its lock is free
-        let _ = files.remove_file(path.as_str());
+        renaming.remove();
         drop(file);
     }
 
@@ -220,21 +229,11 @@ impl<'a, R: Files> Draft<'a, R> {
         ensures text { IfOk result (λ sealed. sealed_text sealed ≡ text_of self.entry.file) }
         ensures target { IfOk result (λ sealed. sealed_target sealed ≡ draft_target self.entry) }
     {
-        let Draft {
-            file,
-            files,
-            path,
-            target,
-        } = self;
+        let Draft { file, renaming } = self;
         match flushed(file, like) {
-            Ok(file) => Ok(Sealed {
-                file,
-                files,
-                path,
-                target,
-            }),
+            Ok(file) => Ok(Sealed { file, renaming }),
             Err(fault) => {
-                let _ = files.remove_file(path.as_str());
+                renaming.remove();
                 Err(fault)
             }
         }
@@ -269,19 +268,14 @@ fn flushed<F: Write + OpenFile + Drop>(
 impl<'a, R: Files> Sealed<'a, R> {
     /// Returns the temporary file's path.
     pub fn path(&self) -> &str {
-        self.path.as_str()
+        self.renaming.path.as_str()
     }
 
     /// Removes the temporary file.
     pub fn discard(self) {
-        let Sealed {
-            file,
-            files,
-            path,
-            target: _,
-        } = self;
+        let Sealed { file, renaming } = self;
         // before its lock is free
-        let _ = files.remove_file(path.as_str());
+        renaming.remove();
         drop(file);
     }
 
@@ -291,19 +285,18 @@ impl<'a, R: Files> Sealed<'a, R> {
         ensures text { IfOk result (λ published. published_text published ≡ sealed_text self.entry) }
         ensures target { IfOk result (λ published. published_target published ≡ sealed_target self.entry) }
     {
-        let Sealed {
-            file,
-            files,
-            path,
-            target,
-        } = self;
-        match files.rename(path.as_str(), target) {
+        let Sealed { file, renaming } = self;
+        match renaming
+            .files
+            .rename(renaming.path.as_str(), renaming.target)
+        {
             Ok(()) => {
                 let written = file.into_written();
+                let target = renaming.target;
                 Ok(Published { target, written })
             }
             Err(error) => {
-                let _ = files.remove_file(path.as_str());
+                renaming.remove();
                 Err(FileFault::System(error))
             }
         }

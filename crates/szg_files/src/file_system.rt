@@ -59,22 +59,16 @@ pub trait FileSystem {
         ensures coming { IfOk result (λ rest. IfSome (Self.File.coming file) (λ bytes. Self.File.coming rest ≡ Some (drop count bytes))) }
         ensures failed { IfErr result (λ fault. Self.File.coming file ≡ None) };
 
-    /// Reads the bytes from `offset` on of the file at a path, which is to have `size` bytes, into the whole of `bytes`. The
+    /// Reads the bytes from offset `at` on of the file at a path, which is to have `len` bytes, into the whole of `out`. The
     /// file may stay open for the next call.
     ///
-    /// Errors: `Ended` if its size is another one, or if it ends before the range does; else `Failed` with the system's
+    /// Errors: `Ended` if its length is another one, or if it ends before the range does; else `Failed` with the system's
     /// reason, only if the bytes are not known.
-    fn read_at(
-        &mut self,
-        path: &str,
-        size: u64,
-        offset: u64,
-        bytes: &mut [u8],
-    ) -> Result<(), RangeFault>
-        ensures range { OnOk result (IfSome (content self.old path.now) (λ known. bytes.new ≡ take (length bytes.old) (drop offset known))) }
-        ensures size { OnOk result (IfSome (content self.old path.now) (λ known. length known ≡ size)) }
+    fn read_at(&mut self, path: &str, len: u64, at: u64, out: &mut [u8]) -> Result<(), RangeFault>
+        ensures range { OnOk result (IfSome (content self.old path.now) (λ known. out.new ≡ take (length out.old) (drop at known))) }
+        ensures size { OnOk result (IfSome (content self.old path.now) (λ known. length known ≡ len)) }
         ensures content { content self.new ≡ content self.old }
         ensures quiet { failures self.new ≡ failures self.old }
-        ensures ended { IsErrOf result RangeFault.Ended → IfSome (content self.old path.now) (λ known. (length known ≡ size → length known < offset + length bytes.old)) }
+        ensures ended { IsErrOf result RangeFault.Ended → IfSome (content self.old path.now) (λ known. (length known ≡ len → length known < at + length out.old)) }
         ensures failed { IfErr result (λ fault. fault ≡ RangeFault.Ended ⊎ content self.old path.now ≡ None) };
 }

@@ -66,26 +66,20 @@ impl<'a> FileSystem for MemoryFiles<'a> {
         Ok(Bytes::new(&left[first..]))
     }
 
-    fn read_at(
-        &mut self,
-        path: &str,
-        size: u64,
-        offset: u64,
-        bytes: &mut [u8],
-    ) -> Result<(), RangeFault> {
+    fn read_at(&mut self, path: &str, len: u64, at: u64, out: &mut [u8]) -> Result<(), RangeFault> {
         let Some(known) = first_of(self.files, path) else {
             let reason = Error::from(ErrorKind::NotFound);
             return Err(RangeFault::Failed(FileFault::System(reason)));
         };
-        let length = known.len() as u64;
-        if length != size || length < offset {
+        let size = known.len() as u64;
+        if size != len || size < at {
             return Err(RangeFault::Ended);
         }
-        let rest = &known[offset as usize..];
-        if rest.len() < bytes.len() {
+        let rest = &known[at as usize..];
+        if rest.len() < out.len() {
             return Err(RangeFault::Ended);
         }
-        bytes.copy_from_slice(&rest[..bytes.len()]);
+        out.copy_from_slice(&rest[..out.len()]);
         Ok(())
     }
 }
