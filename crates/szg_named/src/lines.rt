@@ -208,7 +208,7 @@ pub fn summary_line(alloc: Global, tally: &CheckCounts) -> Result<String, AllocE
         kept,
         skipped,
     } = *tally;
-    let count = good + refused + unread + kept;
+    let count = tally.files();
     let left = more_text(alloc, "kept", kept)?;
     let more = more_text(alloc, "skipped", skipped)?;
     format!(in alloc; "files {count}: ok {good}, refused {refused}, unread {unread}{left}{more}\n")

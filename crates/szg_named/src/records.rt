@@ -304,14 +304,8 @@ pub(crate) fn json_summary(alloc: Global, tally: &CheckCounts) -> Result<String,
     requires { tally.now.good + tally.now.refused + tally.now.unread + tally.now.kept < 2 ^ 64 }
     ensures { IfOk result (λ line. string_bytes line ≡ json_summary tally.now) }
 {
-    let CheckCounts {
-        good,
-        refused,
-        unread,
-        kept,
-        ..
-    } = *tally;
-    let count = good + refused + unread + kept;
+    let CheckCounts { good, refused, .. } = *tally;
+    let count = tally.files();
     let others = json_others(alloc, tally)?;
     format!(in alloc; "{{\"files\":{count},\"ok\":{good},\"refused\":{refused}{others}")
 }

@@ -25,6 +25,14 @@ impl CheckCounts {
     ghost use Rattle.std.specs.Prelude.{◌≡◌, ◌+◌, ◌^◌, ◌<◌};
     ghost use Rattle.szg_named.specs.Verdicts.{good_of, kept_of, refused_of, skipped_of, unread_of};
 
+    /// Returns the number of files.
+    pub fn files(&self) -> u64
+        requires { self.now.good + self.now.refused + self.now.unread + self.now.kept < 2 ^ 64 }
+        ensures { result ≡ self.now.good + self.now.refused + self.now.unread + self.now.kept }
+    {
+        self.good + self.refused + self.unread + self.kept
+    }
+
     /// Returns the tally with one more file.
     pub fn with(self, verdict: &FileVerdict, allow_trailing: bool) -> CheckCounts
         requires good { self.good < 2 ^ 63 }
