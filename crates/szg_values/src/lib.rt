@@ -18,8 +18,11 @@ mod placed;
 mod placements;
 mod squares;
 
+pub use materials::NAME_ORDER;
 pub use placed::PlacedMen;
-pub use placements::{man_key, with_man};
+pub use placements::{
+    has_distinct_squares, has_pawns_on_inner_ranks, key_of, man_key, number_of, with_man,
+};
 
 /// The greatest number of men of a material.
 pub const MAX_MEN: usize = 6;

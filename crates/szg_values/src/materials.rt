@@ -14,7 +14,7 @@ use arrayvec::{ArrayString, ArrayVec};
 const SECOND_SIDE: u8 = 8;
 
 /// The kinds in the order of a name.
-pub(crate) const NAME_ORDER: [Man; 6] = [
+pub const NAME_ORDER: [Man; 6] = [
     Man::King,
     Man::Queen,
     Man::Rook,

@@ -1,10 +1,10 @@
 //! The kinds of men: their letters in a name and their codes in a file.
 
-ghost use Rattle.std.specs.Prelude.{◌≡◌, ◌≤◌, length, count_by};
-ghost use Rattle.szg_values.specs.Men.{code_of, letter_of, man_of, is_man};
+ghost use Rattle.std.specs.Prelude.{◌≡◌, ◌<◌, ◌≤◌, length, count_by};
+ghost use Rattle.szg_values.specs.Men.{code_of, color_at, letter_of, man_at, man_of, is_man};
 ghost use Rattle.szg_values.specs.Material.{is_count};
 
-use crate::{MAX_MEN, Man};
+use crate::{Color, MAX_MEN, Man};
 
 impl Man {
     /// Returns the man's code in a file of de Man's format: pawn 1, knight 2, bishop 3, rook 4, queen 5, king 6.
@@ -22,9 +22,24 @@ impl Man {
         }
     }
 
+    /// Returns the man of a code in a file, where the second side's men add 8.
+    pub fn of_code(code: u8) -> Man
+        ensures { result ≡ man_at code }
+    {
+        match code % 8 {
+            1 => Man::Pawn,
+            2 => Man::Knight,
+            3 => Man::Bishop,
+            4 => Man::Rook,
+            5 => Man::Queen,
+            _ => Man::King,
+        }
+    }
+
     /// Returns the man's letter in a name as an ASCII code: P N B R Q K.
     pub fn letter(self) -> u8
-        ensures { result ≡ letter_of self }
+        ensures letter { result ≡ letter_of self }
+        ensures ascii { result < 96 }
     {
         match self {
             Man::Pawn => b'P',
@@ -49,6 +64,15 @@ impl Man {
             b'P' => Some(Man::Pawn),
             _ => None,
         }
+    }
+}
+
+impl Color {
+    /// Returns the colour of a man's code in a file, where White is the name's first side.
+    pub fn of_code(code: u8) -> Color
+        ensures { result ≡ color_at code }
+    {
+        if code < 8 { Color::White } else { Color::Black }
     }
 }
 

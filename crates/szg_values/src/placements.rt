@@ -159,8 +159,8 @@ fn has_kings(key: u64) -> bool
     key / 262144 % 8 == 1 && key / 4398046511104 == 1
 }
 
-/// Returns the key of men: the sum of what each adds.
-fn key_of(men: &[(Man, Color, Square)]) -> u64
+/// Returns the key of at most six men: the sum of what each adds.
+pub fn key_of(men: &[(Man, Color, Square)]) -> u64
     requires { length men.now ≤ 6 }
     ensures { result ≡ men_key men.now }
 {
@@ -264,7 +264,7 @@ fn has_men(men: &[(Man, Color, Square)]) -> bool
 }
 
 /// Counts the men of a kind and colour.
-fn number_of(kind: Man, color: Color, men: &[(Man, Color, Square)]) -> usize
+pub fn number_of(kind: Man, color: Color, men: &[(Man, Color, Square)]) -> usize
     ensures { result ≡ number_of kind color men.now }
 {
     men.iter().filter(|man| is_of(kind, color, man)).count()
@@ -276,8 +276,8 @@ fn is_of(kind: Man, color: Color, man: &(Man, Color, Square)) -> bool
     man.0 == kind && man.1 == color
 }
 
-/// Returns whether no two men are on one square.
-fn has_distinct_squares(men: &[(Man, Color, Square)]) -> bool
+/// Returns whether no two of at most six men are on one square.
+pub fn has_distinct_squares(men: &[(Man, Color, Square)]) -> bool
     requires { length men.now ≤ 6 }
     ensures test { result ≡ has_distinct_squares men.now }
     ensures on_board { IsTrue result → AreOnBoard men.now }
@@ -298,7 +298,7 @@ fn is_on_square(number: u8, men: &[(Man, Color, Square)]) -> bool
 }
 
 /// Returns whether no pawn is on rank 1 or 8.
-fn has_pawns_on_inner_ranks(men: &[(Man, Color, Square)]) -> bool
+pub fn has_pawns_on_inner_ranks(men: &[(Man, Color, Square)]) -> bool
     ensures { result ≡ has_pawns_on_inner_ranks men.now }
 {
     men.iter().all(|man| !is_pawn_on_outer_rank(man.0, man.2))
