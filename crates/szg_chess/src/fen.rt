@@ -10,7 +10,7 @@ ghost use Rattle.szg_chess.specs.Fen.{man_of_letter, is_gap, is_board_letter, wi
 ghost use Rattle.szg_chess.specs.Position.{first_of, men_fault, state_fault};
 
 use crate::positions::{man_on, men_fault};
-use crate::texts::{letter_of, push_letter, push_square};
+use crate::texts::{push_letter, push_square};
 use crate::{FenRecord, Position, PositionFault};
 use arrayvec::{ArrayString, ArrayVec};
 use std::fmt;
@@ -531,8 +531,8 @@ fn colored_letter(man: Man, color: Color) -> u8
     ensures ascii { result < 128 }
 {
     match color {
-        Color::White => letter_of(man),
-        Color::Black => 32 + letter_of(man),
+        Color::White => man.letter(),
+        Color::Black => 32 + man.letter(),
     }
 }
 

@@ -1,10 +1,10 @@
 //! Positions: which men make one, and what it says of itself.
 
-ghost use Rattle.std.specs.Prelude.{◌≡◌, ◌<◌, ◌≤◌, ◌==◌, ◌&&◌, ◌||◌, not, length, count_by, IsTrue, IsNone, IfSome, Some, None, Ok, Err, option_map, option_copied};
-ghost use Rattle.std.specs.List.{list_any, find};
+ghost use Rattle.std.specs.Prelude.{◌≡◌, ◌<◌, ◌≤◌, ◌==◌, ◌&&◌, not, length, count_by, IsNone, IfSome, Some, None, Ok, Err, option_map, option_copied};
+ghost use Rattle.std.specs.List.{find};
 ghost use Rattle.std.specs.Option.{ForSome};
-ghost use Rattle.szg_values.specs.Men.{is_man, is_color, other_color, file_of, rank_of, square_at};
-ghost use Rattle.szg_values.specs.Placement.{AreOnBoard, men_key, number_of, has_distinct_squares, has_pawns_on_inner_ranks};
+ghost use Rattle.szg_values.specs.Men.{other_color, file_of, square_at};
+ghost use Rattle.szg_values.specs.Placement.{AreOnBoard, number_of, has_distinct_squares, has_pawns_on_inner_ranks};
 ghost use Rattle.szg_chess.specs.Attacks.{is_occupied, is_in_check};
 ghost use Rattle.szg_chess.specs.Position.{IsPosition, men_fault, state_fault, position_fault, has_two_to_six, has_kings, without_en_passant, man_on, is_on, was_passed, has_sound_en_passant};
 ghost use Rattle.szg_chess.specs.Squares.{squares_of};
@@ -13,7 +13,10 @@ ghost use Rattle.szg_chess.specs.Moves.{is_check};
 use crate::attacks::{is_in_check, other_color, squares_of};
 use crate::men::Few;
 use crate::{Position, PositionFault};
-use szg_values::{Color, Man, PlacedMen, Placement, Square, man_key};
+use szg_values::{
+    Color, Man, PlacedMen, Placement, Square, has_distinct_squares, has_pawns_on_inner_ranks,
+    key_of, number_of,
+};
 
 impl Position {
     /// Creates a position of men, the side to move, and the square that a pawn has just passed over by a double step.
@@ -193,66 +196,6 @@ fn has_kings(men: &[(Man, Color, Square)]) -> bool
     ensures { result ≡ has_kings men.now }
 {
     number_of(Man::King, Color::White, men) == 1 && number_of(Man::King, Color::Black, men) == 1
-}
-
-/// Returns the key of men: the sum of what each adds.
-fn key_of(men: &[(Man, Color, Square)]) -> u64
-    requires { length men.now ≤ 6 }
-    ensures { result ≡ men_key men.now }
-{
-    let mut key = 0;
-    for man in men {
-        key += man_key(man.0, man.1);
-    }
-    key
-}
-
-/// Counts the men of a kind and colour.
-fn number_of(kind: Man, color: Color, men: &[(Man, Color, Square)]) -> usize
-    ensures { result ≡ number_of kind color men.now }
-{
-    men.iter().filter(|man| is_of(kind, color, man)).count()
-}
-
-fn is_of(kind: Man, color: Color, man: &(Man, Color, Square)) -> bool
-    ensures { result ≡ (is_man kind man.now.0 && is_color color man.now.1) }
-{
-    man.0 == kind && man.1 == color
-}
-
-/// Returns whether no two men are on one square.
-fn has_distinct_squares(men: &[(Man, Color, Square)]) -> bool
-    requires { length men.now ≤ 6 }
-    ensures test { result ≡ has_distinct_squares men.now }
-    ensures on_board { IsTrue result → AreOnBoard men.now }
-{
-    for (place, man) in men.iter().enumerate() {
-        if is_on_square(man.2.number(), &men[place + 1..]) {
-            return false;
-        }
-    }
-    true
-}
-
-/// Returns whether some man is on the square with this number.
-fn is_on_square(number: u8, men: &[(Man, Color, Square)]) -> bool
-    ensures { result ≡ list_any (λ other. number == other.2) men.now }
-{
-    men.iter().any(|other| other.2.number() == number)
-}
-
-/// Returns whether no pawn is on rank 1 or 8.
-fn has_pawns_on_inner_ranks(men: &[(Man, Color, Square)]) -> bool
-    ensures { result ≡ has_pawns_on_inner_ranks men.now }
-{
-    men.iter().all(|man| !is_pawn_on_outer_rank(man.0, man.2))
-}
-
-fn is_pawn_on_outer_rank(man: Man, square: Square) -> bool
-    ensures { result ≡ (is_man Man.Pawn man && (rank_of square == 0 || rank_of square == 7)) }
-{
-    let rank = square.number() / 8;
-    man == Man::Pawn && (rank == 0 || rank == 7)
 }
 
 /// Returns whether some man is on the square.

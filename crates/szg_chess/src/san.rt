@@ -3,13 +3,13 @@
 ghost use Rattle.std.specs.Prelude.{◌≡◌, ◌≤◌, ◌<◌, ◌+◌, ◌++◌, ◌∷◌, ◌&&◌, ◌==◌, [], not, Some, Contains};
 ghost use Rattle.std.specs.List.{list_any};
 ghost use Rattle.arrayvec.specs.ArrayString.{array_string_len};
-ghost use Rattle.szg_values.specs.Men.{is_man, letter_of, file_of, rank_of};
+ghost use Rattle.szg_values.specs.Men.{is_man, file_of, rank_of};
 ghost use Rattle.szg_chess.specs.Position.{man_on};
 ghost use Rattle.szg_chess.specs.Moves.{legal_moves, is_capture, is_mate, is_check, after};
 ghost use Rattle.szg_chess.specs.San.{moved_kind, is_rival, is_rival_on_file, is_rival_on_rank, file_text, rank_text, origin_text, mover_text, capture_text, promotion_text, check_text, san_text};
 
 use crate::positions::man_on;
-use crate::texts::{letter_of, push_letter, push_square};
+use crate::texts::{push_letter, push_square};
 use crate::{Move, Position};
 use arrayvec::ArrayString;
 use szg_values::{Man, Square};
@@ -45,7 +45,7 @@ impl Position {
                 push_file(text, m.from);
             }
         } else {
-            push_letter(text, letter_of(kind));
+            push_letter(text, kind.letter());
             self.push_origin(text, m);
         }
     }
@@ -146,7 +146,7 @@ fn push_promotion(text: &mut ArrayString<9>, promotion: &Option<Man>)
 {
     if let Some(man) = promotion {
         push_letter(text, b'=');
-        push_letter(text, letter_of(*man));
+        push_letter(text, man.letter());
     }
 }
 

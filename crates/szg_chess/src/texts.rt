@@ -2,11 +2,10 @@
 
 ghost use Rattle.std.specs.Prelude.{◌≡◌, ◌≤◌, ◌<◌, ◌+◌, ◌++◌, ◌∷◌, []};
 ghost use Rattle.arrayvec.specs.ArrayString.{array_string_len};
-ghost use Rattle.szg_values.specs.Men.{letter_of};
 ghost use Rattle.szg_chess.specs.Uci.{square_text};
 
 use arrayvec::ArrayString;
-use szg_values::{Man, Square};
+use szg_values::Square;
 
 /// Appends an ASCII character.
 pub(crate) fn push_letter<const CAP: usize>(text: &mut ArrayString<CAP>, letter: u8)
@@ -27,19 +26,4 @@ pub(crate) fn push_square<const CAP: usize>(text: &mut ArrayString<CAP>, square:
     let number = square.number();
     push_letter(text, b'a' + number % 8);
     push_letter(text, b'1' + number / 8);
-}
-
-/// Returns the upper case letter of a man.
-pub(crate) fn letter_of(man: Man) -> u8
-    ensures letter { result ≡ letter_of man }
-    ensures ascii { result < 96 }
-{
-    match man {
-        Man::Pawn => b'P',
-        Man::Knight => b'N',
-        Man::Bishop => b'B',
-        Man::Rook => b'R',
-        Man::Queen => b'Q',
-        Man::King => b'K',
-    }
 }

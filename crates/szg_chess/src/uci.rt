@@ -5,7 +5,7 @@ ghost use Rattle.std.specs.List.{find};
 ghost use Rattle.szg_chess.specs.Uci.{uci_text};
 ghost use Rattle.szg_chess.specs.Moves.{legal_moves};
 
-use crate::texts::{letter_of, push_letter, push_square};
+use crate::texts::{push_letter, push_square};
 use crate::{Move, Position};
 use arrayvec::ArrayString;
 use std::fmt;
@@ -19,7 +19,7 @@ impl Move {
         push_square(&mut text, self.from);
         push_square(&mut text, self.to);
         if let Some(man) = self.promotion {
-            push_letter(&mut text, 32 + letter_of(man));
+            push_letter(&mut text, 32 + man.letter());
         }
         text
     }

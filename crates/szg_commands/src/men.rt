@@ -7,20 +7,10 @@ ghost use Rattle.szg_commands.specs.Men.{parsed_color, is_placed_man, is_man_wor
 use crate::refusal::Refusal;
 use arrayvec::ArrayVec;
 use std::alloc::AllocError;
-use szg_values::{Color, MAX_MEN, Man, Placement, PlacementFault, Square};
+use szg_values::{Color, MAX_MEN, Man, NAME_ORDER, Placement, PlacementFault, Square};
 
 /// The colours in the order in which men are written.
 static COLORS: [Color; 2] = [Color::White, Color::Black];
-
-/// The kinds of men in the order of a name.
-static KINDS: [Man; 6] = [
-    Man::King,
-    Man::Queen,
-    Man::Rook,
-    Man::Bishop,
-    Man::Knight,
-    Man::Pawn,
-];
 
 /// Parses the placement of these words, with this mover.
 ///
@@ -127,7 +117,7 @@ pub(crate) fn add_men(placement: &Placement, text: &mut String) -> Result<(), Al
 fn add_side(men: &[(Man, Color, Square)], color: Color, text: &mut String) -> Result<(), AllocError>
     ensures { OnOk result (string_bytes text.new ≡ string_bytes text.old ++ side_words men.now color) }
 {
-    'kinds: for kind in KINDS {
+    'kinds: for kind in NAME_ORDER {
         add_kind(men, kind, color, text)?;
     }
     Ok(())

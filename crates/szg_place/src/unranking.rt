@@ -8,11 +8,12 @@ ghost use Rattle.szg_count.specs.Laws.{IsIn};
 ghost use Rattle.szg_count.specs.Radix.{index_with};
 ghost use Rattle.szg_count.specs.Views.{groups_in_slot_order, nibbles_in};
 ghost use Rattle.szg_file.specs.Index.{slot_in};
+ghost use Rattle.szg_values.specs.Men.{color_at, man_at};
 ghost use Rattle.szg_values.specs.Material.{IsMaterial, has_pawns, is_symmetric};
 ghost use Rattle.szg_values.specs.Placement.{PlacedMan};
 ghost use Rattle.szg_place.specs.Layout.{is_dtz};
 ghost use Rattle.szg_place.specs.Ranks.{EachInList};
-ghost use Rattle.szg_place.specs.Spots.{board_at, color_at, man_at, men_by_group, men_on_squares, placement_refusal, ranks_in_lists, ranks_of_index, squares_of_ranks};
+ghost use Rattle.szg_place.specs.Spots.{board_at, men_by_group, men_on_squares, placement_refusal, ranks_in_lists, ranks_of_index, squares_of_ranks};
 ghost use Rattle.szg_place.specs.Tables.{numbering_in};
 
 use crate::group_ranks::unrank_group;
@@ -104,26 +105,7 @@ fn man_on(code: u8, square: u8) -> (Man, Color, Square)
     let Some(square) = Square::new(square) else {
         unreachable!()
     };
-    (man_at(code), color_at(code), square)
-}
-
-fn man_at(code: u8) -> Man
-    ensures { result ≡ man_at code }
-{
-    match code % 8 {
-        1 => Man::Pawn,
-        2 => Man::Knight,
-        3 => Man::Bishop,
-        4 => Man::Rook,
-        5 => Man::Queen,
-        _ => Man::King,
-    }
-}
-
-fn color_at(code: u8) -> Color
-    ensures { result ≡ color_at code }
-{
-    if code < 8 { Color::White } else { Color::Black }
+    (Man::of_code(code), Color::of_code(code), square)
 }
 
 // Returns whether a DTZ subtable stores Black although both sides have the same men and there are pawns. No placement

@@ -1,11 +1,11 @@
 -- The walk over the positions of a material. It leaves out images.
-use Rattle.std.specs.Prelude.{ℕ, ◌≡◌, ◌+◌, ◌*◌, ◌≤◌, ◌<◌, ◌%◌, ◌/◌, ◌^◌, nat_lt, nat_le, ◌==◌, Bool, not, count_by, ◌&&◌, ◌||◌, List, [], ◌∷◌, ◌++◌, map, length, Some, None, IsTrue, Contains, if◌then◌else◌, IsFalse}
+use Rattle.std.specs.Prelude.{ℕ, ◌≡◌, ◌+◌, ◌*◌, ◌≤◌, ◌<◌, ◌%◌, ◌/◌, ◌^◌, nat_le, Bool, not, count_by, ◌&&◌, ◌||◌, List, [], ◌∷◌, ◌++◌, map, length, Some, None, IsTrue, Contains, if◌then◌else◌, IsFalse}
 use Rattle.std.specs.List.{list_any}
-use Rattle.szg_values.specs.Men.{is_man, is_color, file_of, rank_of}
+use Rattle.szg_values.specs.Men.{man_at, color_at, is_man, is_color, file_of, rank_of}
 use Rattle.szg_values.specs.Material.{Sides}
 use Rattle.szg_values.specs.Placement.{PlacedMan}
 use Rattle.szg_values.specs.declared.Man.{Man}
-use Rattle.szg_values.specs.declared.Man.TheVariants.{Pawn, Knight, Bishop, Rook, Queen, King}
+use Rattle.szg_values.specs.declared.Man.TheVariants.{Pawn}
 use Rattle.szg_values.specs.declared.Color.{Color}
 use Rattle.szg_values.specs.declared.Color.TheVariants.{White, Black}
 use Rattle.szg_game.specs.declared.Class.{Class}
@@ -18,22 +18,13 @@ use Rattle.szg_verify.specs.Conditions.{breaks}
 use Rattle.szg_verify.specs.declared.conditions.Condition.{Condition}
 use Rattle.szg_verify.specs.Materials.{are_closed, covers, is_of}
 
--- the man of a code in a file
-abbrev pub kind_of : ℕ → Man
-kind_of code =
-    if code == 1 then Pawn else
-    if code == 2 then Knight else
-    if code == 3 then Bishop else
-    if code == 4 then Rook else
-    if code == 5 then Queen else King
-
 -- the men of a material with their colors, the first side as White; White's king comes first
 abbrev pub colored_men : Sides → List (Man × Color)
 colored_men sides = map (λ man. (man, White)) sides.first ++ map (λ man. (man, Black)) sides.second
 
 -- the man of a code and its color, where the second side's men add 8
 abbrev pub colored_man : ℕ → Man × Color
-colored_man code = (kind_of (code % 8), if nat_lt code 8 then White else Black)
+colored_man code = (man_at code, color_at code)
 
 -- the men of a color
 abbrev pub side_in : Color → List (Man × Color) → List Man

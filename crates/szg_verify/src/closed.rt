@@ -9,10 +9,9 @@ ghost use Rattle.szg_values.specs.declared.Man.{Man};
 ghost use Rattle.szg_verify.specs.Materials.{are_closed, changed_from, changes, has_man, is_listed, is_same_material, leads_to, without};
 ghost use Rattle.szg_verify.specs.Walk.{side_in};
 
-use crate::tables::KINDS;
 use crate::walk::colored_men;
 use arrayvec::ArrayVec;
-use szg_values::{Color, Man, Material};
+use szg_values::{Color, Man, Material, NAME_ORDER};
 
 /// The men that may be captured.
 const CAPTURED: [Man; 5] = [Man::Queen, Man::Rook, Man::Bishop, Man::Knight, Man::Pawn];
@@ -273,7 +272,7 @@ fn is_same_pair(first: &[Man], second: &[Man], white: &[Man], black: &[Man]) -> 
 fn is_same_men(side: &[Man], other: &[Man]) -> bool
     ensures { result ≡ is_same_men side.now other.now }
 {
-    KINDS
+    NAME_ORDER
         .iter()
         .all(|kind| count(*kind, side) == count(*kind, other))
 }

@@ -1,24 +1,13 @@
 //! What a set of DTZ tables offers.
 
 ghost use Rattle.std.specs.Prelude.{◌≡◌, IfOk};
-ghost use Rattle.szg_values.specs.Placement.{number_of};
 ghost use Rattle.szg_verify.specs.Entries.{StoredDistances};
 ghost use Rattle.szg_verify.specs.Verified.{has_equal_sides};
 
 use crate::Distance;
 use szg_chess::Position;
 use szg_game::Class;
-use szg_values::{Color, Man, Square};
-
-/// The kinds of men.
-pub(crate) const KINDS: [Man; 6] = [
-    Man::King,
-    Man::Queen,
-    Man::Rook,
-    Man::Bishop,
-    Man::Knight,
-    Man::Pawn,
-];
+use szg_values::{Color, Man, NAME_ORDER, Square, number_of};
 
 /// A set of DTZ tables.
 pub trait DtzTables {
@@ -47,15 +36,6 @@ pub trait DtzTables {
 pub fn has_equal_sides(men: &[(Man, Color, Square)]) -> bool
     ensures { result ≡ has_equal_sides men.now }
 {
-    KINDS.iter().all(|kind| number_of(*kind, Color::White, men)
+    NAME_ORDER.iter().all(|kind| number_of(*kind, Color::White, men)
         == number_of(*kind, Color::Black, men))
-}
-
-/// Counts the men of a kind and color.
-fn number_of(kind: Man, color: Color, men: &[(Man, Color, Square)]) -> usize
-    ensures { result ≡ number_of kind color men.now }
-{
-    men.iter()
-        .filter(|man| man.0 == kind && man.1 == color)
-        .count()
 }

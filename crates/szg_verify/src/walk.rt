@@ -8,7 +8,7 @@ ghost use Rattle.szg_chess.specs.Position.{IsPosition};
 ghost use Rattle.szg_verify.specs.Entries.{tables_of};
 ghost use Rattle.szg_verify.specs.Memory.{AreRight};
 ghost use Rattle.szg_verify.specs.Verified.{is_checked};
-ghost use Rattle.szg_verify.specs.Walk.{IsFirstRefused, IsRangeChecked, IsRefused, colored_man, colored_men, has_lone_pawns, has_pawn, is_walked, kind_of, number_count, placed_by, position_by, shard_start};
+ghost use Rattle.szg_verify.specs.Walk.{IsFirstRefused, IsRangeChecked, IsRefused, colored_men, has_lone_pawns, has_pawn, is_walked, number_count, placed_by, position_by, shard_start};
 
 use crate::memory::clear;
 use crate::{Cell, Condition, DtzTables, Steps, check_position};
@@ -299,29 +299,7 @@ pub(crate) fn colored_men(material: &Material) -> ArrayVec<(Man, Color), 6>
     let codes = material.men();
     let mut men = ArrayVec::new();
     for code in codes.as_slice() {
-        men.push(colored_man(*code));
+        men.push((Man::of_code(*code), Color::of_code(*code)));
     }
     men
-}
-
-/// Returns the man of a code and its color.
-fn colored_man(code: u8) -> (Man, Color)
-    ensures { result ≡ colored_man code }
-{
-    let color = if code < 8 { Color::White } else { Color::Black };
-    (kind_of(code % 8), color)
-}
-
-/// Returns the man of a code in a file.
-fn kind_of(code: u8) -> Man
-    ensures { result ≡ kind_of code }
-{
-    match code {
-        1 => Man::Pawn,
-        2 => Man::Knight,
-        3 => Man::Bishop,
-        4 => Man::Rook,
-        5 => Man::Queen,
-        _ => Man::King,
-    }
 }

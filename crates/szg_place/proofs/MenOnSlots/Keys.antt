@@ -6,7 +6,7 @@ use Rattle.std.proofs.Math.Bool.{not, ◌&&◌, ◌||◌}
 use Rattle.std.proofs.lemmas.Bool.{cases_Bool, cases_order, eq-eqb, ne_eqb, and_from, and_parts, false_from_ne_true}
 use Rattle.std.proofs.lemmas.Bool.Decides.{nat_tests}
 use Rattle.std.proofs.lemmas.List.Sums.{sum_by-cons, count_by-le-length}
-use Rattle.szg_values.specs.Men.{code_of, is_man, is_color, name_order}
+use Rattle.szg_values.specs.Men.{code_of, man_at, is_man, is_color, name_order}
 use Rattle.szg_values.specs.Material.{Sides, IsMaterial, is_in_order, may_be_first, is_not_later, is_symmetric, man_codes, is_same_men}
 use Rattle.szg_values.specs.Placement.{PlacedMan, Board, placement_fault, side_of, material_of}
 use Rattle.szg_values.specs.declared.Man.{Man}
@@ -22,7 +22,7 @@ use Rattle.szg_count.specs.Facts.{key_of, with_exchanged_halves}
 use Rattle.szg_count.proofs.ManCodes.{code_small, codes_small}
 use Rattle.szg_place.specs.Keys.{men_key}
 use Rattle.szg_place.specs.Normal.{colored_code, exchanged_color, is_exchanged}
-use Rattle.szg_place.specs.Spots.{is_of_material, man_at}
+use Rattle.szg_place.specs.Spots.{is_of_material}
 use Rattle.szg_place.proofs.MenOnSlots.Slotted.{few_men}
 use Rattle.szg_place.proofs.Indexes.Spotted.{none_is}
 use Rattle.szg_place.proofs.MenOnSlots.Pieces.{count-cons, count-same}

@@ -5,7 +5,7 @@ use Rattle.std.specs.Prelude.{◌==◌, count_by, Option, Some, None}
 use Rattle.std.specs.List.{list_any}
 use Rattle.std.proofs.Math.Bool.{not, ◌&&◌, ◌||◌}
 use Rattle.std.proofs.lemmas.Bool.{cases_Bool, cases_eq, eq-eqb, ne_eqb, and_parts, false_from_ne_true, or_left, or_right}
-use Rattle.szg_values.specs.Men.{code_of, is_man, is_color, rank_of}
+use Rattle.szg_values.specs.Men.{code_of, man_at, is_man, is_color, rank_of}
 use Rattle.szg_values.specs.Material.{Sides, IsMaterial, has_king_first, is_in_order, may_be_first, is_count, has_pawns, count_of, man_codes, is_symmetric, is_same_men}
 use Rattle.szg_values.specs.Placement.{PlacedMan, Board, number_of, placement_fault, has_men, has_distinct_squares, has_pawns_on_inner_ranks, side_of, material_of}
 use Rattle.szg_values.specs.declared.Man.{Man}
@@ -22,7 +22,7 @@ use Rattle.szg_count.proofs.Free.{contains-IsIn}
 use Rattle.szg_count.proofs.Differ.{IsIn-map}
 use Rattle.szg_count.proofs.ManCodes.{code_small}
 use Rattle.szg_place.specs.Normal.{CodedMan, is_exchanged, exchanged_color, colored_code, pieces_of, moved, flip_rank}
-use Rattle.szg_place.specs.Spots.{man_at, is_of_material}
+use Rattle.szg_place.specs.Spots.{is_of_material}
 use Rattle.szg_place.specs.Laws.{IsOnBoard}
 use Rattle.szg_place.proofs.Ranks.Lists.{tested, all-IsIn, not_true}
 use Rattle.szg_place.proofs.MenOnSlots.Pieces.{IsStood, IsStood-moved, count-cons, count-same, is_pawn_code}

@@ -16,7 +16,8 @@ use Rattle.szg_file.specs.Index.{Index, IsIndex, slot_in}
 use Rattle.szg_count.specs.Grouped.{is_regular}
 use Rattle.szg_count.proofs.InSlots.{groups_are}
 use Rattle.szg_place.specs.Layout.{IsLayout, is_dtz, nibbles_at, stored_side, part_count, side_count}
-use Rattle.szg_place.specs.Spots.{man_at, color_at, men_on_squares, men_by_group, counted_at, size_at, placement_refusal, board_at, mover_at}
+use Rattle.szg_values.specs.Men.{man_at, color_at}
+use Rattle.szg_place.specs.Spots.{men_on_squares, men_by_group, counted_at, size_at, placement_refusal, board_at, mover_at}
 use Rattle.szg_place.specs.Laws.{HasSpot}
 use Rattle.szg_place.specs.Tables.{numbering_in}
 use Rattle.szg_place.specs.declared.PlaceFault.TheVariants as fault

@@ -5,7 +5,7 @@ use Rattle.std.specs.List.{concat, zip}
 use Rattle.std.proofs.Math.Bool.{not, ◌&&◌}
 use Rattle.std.proofs.lemmas.Bool.{cases_Bool, eqb-true, ltb-false, lt-ltb, or_cases}
 use Rattle.std.proofs.lemmas.List.{append-nil, map-append}
-use Rattle.szg_values.specs.Men.{code_of}
+use Rattle.szg_values.specs.Men.{code_of, man_at, color_at}
 use Rattle.szg_values.specs.Material.{Sides, IsMaterial, has_pawns, count_of, man_codes, lead_pawn_code, other_pawn_code, other_pawns, first_leads, pawn_count}
 use Rattle.szg_values.specs.declared.Man.{Man}
 use Rattle.szg_values.specs.declared.Man.TheVariants.{Pawn, Knight, Bishop, Rook, Queen, King}
@@ -16,7 +16,7 @@ use Rattle.szg_count.specs.Radix.{EachBelow, decode_digits}
 use Rattle.szg_count.proofs.Differ.{IsIn-append, IsIn-append_left, IsIn-append_right, IsIn-filter, IsIn-sets_of, AllDiffer-filter, contains_it, IsIn-map}
 use Rattle.szg_count.proofs.Free.{contains-IsIn}
 use Rattle.szg_place.specs.Normal.{CodedMan, colored_code, squares_with}
-use Rattle.szg_place.specs.Spots.{man_at, color_at, men_on_squares, men_by_group, ordered_sets}
+use Rattle.szg_place.specs.Spots.{men_on_squares, men_by_group, ordered_sets}
 use Rattle.szg_place.specs.Ranks.{EachInList}
 use Rattle.szg_place.proofs.Ranks.Lists.{filter-same, filter-set, filter-inside, same_tests}
 use Rattle.szg_place.proofs.Ranks.Ways.{IsLaid, laid_more, AllDiffer-free, lead_pawns_order, pawn_order-squares}

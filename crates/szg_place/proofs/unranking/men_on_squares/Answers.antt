@@ -2,7 +2,8 @@ use Rattle.std.proofs.Common.{◌<◌, ◌∙◌, List, [], ◌∷◌, ◌++◌,
 use Rattle.std.proofs.lemmas.List.{take_more, take_all}
 use Rattle.szg_values.specs.Placement.{PlacedMan}
 use Rattle.szg_count.proofs.Differ.{IsIn-at}
-use Rattle.szg_place.specs.Spots.{men_on_squares, man_at, color_at}
+use Rattle.szg_values.specs.Men.{man_at, color_at}
+use Rattle.szg_place.specs.Spots.{men_on_squares}
 use Rattle.szg_place.proofs.Placements.Placed.{placed_men-long, placed_men-at}
 use Rattle.szg_place.proofs.unranking.men_on_squares.Goals as goal
 
