@@ -68,11 +68,3 @@ more_at b squares n m e h is =
 -- the men on the squares below one of the set are not all
 pub more_than : (b : RawBoard) (squares n : ℕ) → n < 64 → is_in squares n ≡ true → length (so_far b squares n) < length (flat_map (piece b squares) all_squares)
 more_than b squares n h is = more_at b squares n 64 refl h is
-
--- the first square of the rest is in the set
-pub rest_found : (squares from : ℕ) → squares < 2 ^ 64 → 0 < squares / 2 ^ from → is_in squares (from + trailing_zeros w64 (squares / 2 ^ from)) ≡ true
-rest_found squares from small some =
-    let rest = squares / 2 ^ from in let k = trailing_zeros w64 rest in
-    let lowest = bit_at-trailing_zeros w64 rest some (lt_of_le_of_lt (div-le_self squares (2 ^ from)) small) in
-    let back : (from + k) - from ≡ k = omega arith in
-    ap (λ (bit : ℕ). bit == 1) (shifted squares from (from + k) (omega arith) ∙ ap (bit_at rest) back ∙ lowest.1)

@@ -6,6 +6,7 @@ ghost use Rattle.szg_c.specs.Boards.{colors_of, is_twice, kind_on, kinds_of, man
 use crate::men::RawMan;
 use crate::status::{DONE, MAN, MEN, SAME_SQUARE};
 use arrayvec::ArrayVec;
+use szg_chess::{is_in, next_in};
 use szg_values::MAX_MEN;
 
 /// The squares of the men of each colour and of each kind. Bit 0 is a1, bit 1 is b1, .. bit 63 is h8.
@@ -156,30 +157,4 @@ fn kind_on(board: &RawBoard, square: u8) -> u8
     } else {
         6
     }
-}
-
-/// Returns whether a square is in a set.
-fn is_in(squares: u64, square: u8) -> bool
-    requires { square < 64 }
-    ensures { result ≡ is_in squares square }
-{
-    squares >> square & 1 == 1
-}
-
-/// Returns the first square of a set from `from` on. 64 if there is none.
-fn next_in(squares: u64, from: u8) -> u8
-    requires { from ≤ 64 }
-    ensures from { from ≤ result }
-    ensures within { result ≤ 64 }
-    ensures found { result < 64 → IsTrue (is_in squares result) }
-    ensures first { (square : ℕ) → from ≤ square → square < result → IsFalse (is_in squares square) }
-{
-    if from == 64 {
-        return 64;
-    }
-    let rest = squares >> from;
-    if rest == 0 {
-        return 64;
-    }
-    from + rest.trailing_zeros() as u8
 }

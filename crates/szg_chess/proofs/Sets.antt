@@ -150,3 +150,11 @@ rest_within squares from small some =
           let zero_bit = sym (bit_at_above squares 64 (from + k) small (ltb-false (from + k) 64 f)) ∙ shifted squares from (from + k) (omega arith) ∙ ap (bit_at rest) back ∙ lowest.1 in
           absurd (omega (arith, zero_bit))
     ]
+
+-- the first square of the rest is in the set
+pub rest_found : (squares from : ℕ) → squares < 2 ^ 64 → 0 < squares / 2 ^ from → is_in squares (from + trailing_zeros w64 (squares / 2 ^ from)) ≡ true
+rest_found squares from small some =
+    let rest = squares / 2 ^ from in let k = trailing_zeros w64 rest in
+    let lowest = bit_at-trailing_zeros w64 rest some (lt_of_le_of_lt (div-le_self squares (2 ^ from)) small) in
+    let back : (from + k) - from ≡ k = omega arith in
+    ap (λ (bit : ℕ). bit == 1) (shifted squares from (from + k) (omega arith) ∙ ap (bit_at rest) back ∙ lowest.1)

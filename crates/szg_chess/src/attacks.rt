@@ -64,8 +64,8 @@ pub(crate) fn attacks_past(occupied: u64, man: &(Man, Color, Square), to: Square
         && squares_between(man.2.number(), to.number()) & occupied == 0
 }
 
-/// Returns whether a square is in a set.
-pub(crate) fn is_in(squares: u64, square: u8) -> bool
+/// Returns whether a square is in a set of squares, bit 0 for a1 to bit 63 for h8.
+pub fn is_in(squares: u64, square: u8) -> bool
     requires { square < 64 }
     ensures { result ≡ is_in squares square }
 {

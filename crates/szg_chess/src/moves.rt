@@ -539,10 +539,11 @@ fn squares_of_file(file: u8) -> u64
 }
 
 /// Returns the first square of a set from `from` on. 64 if there is none.
-fn next_in(squares: u64, from: u8) -> u8
+pub fn next_in(squares: u64, from: u8) -> u8
     requires { from ≤ 64 }
     ensures from { from ≤ result }
     ensures within { result ≤ 64 }
+    ensures found { result < 64 → IsTrue (is_in squares result) }
     ensures first { (square : ℕ) → from ≤ square → square < result → IsFalse (is_in squares square) }
 {
     if from == 64 {
