@@ -10,10 +10,10 @@ pub record Forward : Type 0 where
   pub calls : ℕ
 
 -- the bytes from `place` on that were read ahead are the chunk's bytes from index `from` up to `to`
-pub record IsForward (content : List ℕ) (place end : ℕ) (piece : List ℕ) (from to : ℕ) : Type 0 where
+pub record IsForward (content : List ℕ) (place end : ℕ) (chunk : List ℕ) (from to : ℕ) : Type 0 where
   pub whole : end ≡ length content
-  pub room : 0 < length piece
+  pub room : 0 < length chunk
   pub in_order : from ≤ to
-  pub within : to ≤ length piece
+  pub within : to ≤ length chunk
   pub inside : place + (to - from) ≤ end
-  pub held : take (to - from) (drop from piece) ≡ take (to - from) (drop place content)
+  pub held : take (to - from) (drop from chunk) ≡ take (to - from) (drop place content)

@@ -2,7 +2,7 @@
 use Rattle.std.specs.Prelude.{ℕ, ◌+◌, ◌*◌, ◌≤◌, List, length, option_map, Option}
 use Rattle.std.specs.List.{sum_by}
 use Rattle.szg_block.specs.declared.Sub.{Sub}
-use Rattle.szg_file.specs.declared.reading.front.Front.{Front}
+use Rattle.szg_file.specs.declared.reading.state.ReaderState.{ReaderState}
 use Rattle.szg_file.specs.declared.reading.Opening.{Opening}
 use Rattle.szg_file.specs.declared.reading.Pieces.{Pieces}
 use Rattle.szg_file.specs.declared.reading.read_front.FrontRead.{FrontRead}
@@ -15,7 +15,7 @@ use Rattle.szg_file.specs.WholeRead.{sub_lengths, map_lengths}
 
 -- The lists passed in have `before` items, and those returned `after`. They and the list of padding bytes have grown
 -- by at most the increase of `growth`.
-abbrev pub HasCounted : Front → Front → ℕ → ℕ → Type 0
+abbrev pub HasCounted : ReaderState → ReaderState → ℕ → ℕ → Type 0
 HasCounted old new before after = old.growth + after + length new.fill.items ≤ new.growth + before + length old.fill.items
 
 -- ---- the total length of the lists in the items of a list

@@ -3,7 +3,7 @@ use Rattle.std.specs.Prelude.{◌≡◌, ℕ, ◌+◌, List, [], ◌++◌, lengt
 use Rattle.std.specs.Io.KnownBytes.{IsAtEnd}
 use Rattle.szg_io.specs.Device.{HasFailed}
 use Rattle.szg_io.specs.Moved.{Takes}
-use Rattle.szg_file.specs.declared.reading.front.Front.{Front}
+use Rattle.szg_file.specs.declared.reading.state.ReaderState.{ReaderState}
 use Rattle.szg_file.specs.declared.fault.Reason.{Reason}
 use Rattle.szg_file.specs.declared.fault.Reason.TheVariants.{Truncated}
 use Rattle.szg_file.specs.declared.fault.ReadFault.{ReadFault}
@@ -35,7 +35,7 @@ IsCut (refused at why rest) = rest ≡ []
 IsCut (truncated count) = Unit {0}
 
 -- The bytes are a whole text of the format, each below 256, and the state has moved past them.
-pub record Advances {A : Type 0} (f : Format A) (a : A) (old new : Front) (bytes : List ℕ) : Type 0 where
+pub record Advances {A : Type 0} (f : Format A) (a : A) (old new : ReaderState) (bytes : List ℕ) : Type 0 where
   pub fits : AreNumbers 1 bytes
   pub filled : List ℕ
   pub whole : verdict f old.place bytes ≡ good a filled []
@@ -49,21 +49,21 @@ turns_of (Err fault) = 1
 
 -- How the result depends on the bytes that were read: `Device` occurs only if the reader may fail, and with
 -- `Memory` no byte after the text or after the first field that fails was read.
-abbrev pub Answer : {A X : Type 0} → Format A → (X → A) → Front → Front → Option (List ℕ) → ℕ → ℕ → ℕ → Bool → List ℕ → Result X ReadFault → Type 0
+abbrev pub Answer : {A X : Type 0} → Format A → (X → A) → ReaderState → ReaderState → Option (List ℕ) → ℕ → ℕ → ℕ → Bool → List ℕ → Result X ReadFault → Type 0
 Answer f view old new coming failures failures' row may_fail bytes (Ok x) = Advances f (view x) old new bytes × (failures' ≡ failures)
 Answer f view old new coming failures failures' row may_fail bytes (Err (Refused place reason)) = IsRefusal (verdict f old.place bytes) place reason coming × (failures' ≡ failures)
 Answer f view old new coming failures failures' row may_fail bytes (Err Device) = HasFailed failures failures' row × IsTrue may_fail
 Answer f view old new coming failures failures' row may_fail bytes (Err Memory) = StopsWithin (verdict f old.place bytes) × (failures' ≡ failures)
 
 -- These bytes were read, with few enough calls, and the result is their verdict.
-pub record Reading {A X R : Type 0} (f : Format A) (view : X → A) (old new : Front)
+pub record Reading {A X R : Type 0} (f : Format A) (view : X → A) (old new : ReaderState)
     (dev : Ghosts R) (input input' : R) (result : Result X ReadFault) : Type 0 where
   pub bytes : List ℕ
   pub taken : Takes dev input input' bytes (turns_of result)
   pub answer : Answer f view old new (dev.coming input') (dev.failures input) (dev.failures input') (dev.interrupted input') (dev.may_fail input) bytes result
 
 -- These bytes were read, and they are no whole text.
-pub record Lacking {A R : Type 0} (f : Format A) (old : Front) (dev : Ghosts R) (input input' : R) : Type 0 where
+pub record Lacking {A R : Type 0} (f : Format A) (old : ReaderState) (dev : Ghosts R) (input input' : R) : Type 0 where
   pub bytes : List ℕ
   pub taken : Takes dev input input' bytes 1
   pub short : IsCut (verdict f old.place bytes)

@@ -18,9 +18,9 @@ use crate::lookup::{Slotted, constant_value, slotted_at};
 use crate::opened::forward::Forward;
 use crate::reading::blocks::block_bytes;
 use crate::reading::dropping::PlacedSub;
-use crate::reading::front::Front;
 use crate::reading::outline::{Outline, read_outline};
 use crate::reading::sink::NoSink;
+use crate::reading::state::ReaderState;
 use crate::table_index::{TableIndex, index_of_placed};
 use std::alloc::Global;
 use std::marker::Model;
@@ -129,7 +129,7 @@ impl<S: Source + Drop> Opened<S> {
 }
 
 /// The number of bytes of a subtable's blocks that are requested at once while a table is opened.
-const PIECE: usize = 65536;
+const CHUNK: usize = 65536;
 
 /// Opens a table of this material and kind over a source. It makes every check of `read` on the source's bytes from
 /// the first on, those of blocks included, and keeps no block. It requests one field after another, and the blocks
@@ -154,20 +154,20 @@ pub fn open<S: Source + Drop>(
     ensures quiet { IfErr result (λ e. (e.0 ≡ OpenFault.Source → ⊥) → S.failed e.1 ≡ S.failed source) }
     ensures fault { IfErr result (λ e. e.0 ≡ OpenFault.Source → Rose (S.failed source) (S.failed e.1)) }
 {
-    let mut piece = Vec::new(alloc);
-    if piece.resize(PIECE, 0).is_err() {
+    let mut chunk = Vec::new(alloc);
+    if chunk.resize(CHUNK, 0).is_err() {
         return Err((OpenFault::Memory, source));
     }
-    let mut front = Front::new(alloc);
+    let mut state = ReaderState::new(alloc);
     let mut buffer = Vec::new(alloc);
-    let mut input = Forward::new(source, piece);
+    let mut input = Forward::new(source, chunk);
     match read_outline(
         alloc,
         &material,
         kind,
         &mut buffer,
         &mut input,
-        &mut front,
+        &mut state,
         &mut NoSink,
         &mut (),
     ) {

@@ -1,6 +1,5 @@
 pub(crate) mod blocks;
 pub(crate) mod dropping;
-pub(crate) mod front;
 mod heads;
 pub(crate) mod in_memory;
 mod index;
@@ -11,6 +10,7 @@ pub(crate) mod read_front;
 pub(crate) mod scan;
 pub(crate) mod sink;
 pub(crate) mod start;
+pub(crate) mod state;
 mod streaming;
 mod taking;
 
@@ -30,12 +30,12 @@ ghost use Rattle.szg_file.specs.Grown.{HasCounted, opening_lengths, pieces_lengt
 use crate::begun::Begun;
 use crate::fault::ReadFault;
 use crate::reading::blocks::read_blocks;
-use crate::reading::front::Front;
 use crate::reading::heads::read_heads;
 use crate::reading::maps::read_maps;
 use crate::reading::parts::{Parts, read_parts};
 use crate::reading::read_front::{FrontRead, read_front};
 use crate::reading::start::read_start;
+use crate::reading::state::ReaderState;
 use crate::reading::taking::{take_field, take_fill};
 use crate::table::{Map, Table};
 use crate::table_index::index_of_subs;
@@ -69,23 +69,23 @@ pub(crate) fn read_opening<R: Input>(
     material: &Material,
     kind: Kind,
     input: &mut R,
-    front: &mut Front,
+    state: &mut ReaderState,
 ) -> Result<Opening, ReadFault>
-    requires place { front.old.place ≡ 0 }
-    requires growth { front.old.growth ≡ 0 }
-    ensures opening { Reading (opening_field material.now kind) opened front.old front.new R.Input input.old input.new result }
+    requires place { state.old.place ≡ 0 }
+    requires growth { state.old.growth ≡ 0 }
+    ensures opening { Reading (opening_field material.now kind) opened state.old state.new R.Input input.old input.new result }
     ensures slots { IfOk result (λ o. o.parts.slots.items ≡ slots material.now kind (map part_of o.parts.bytes.items)) }
     ensures begun { IfOk result (λ o. o.heads.items ≡ begun (slots material.now kind (map part_of o.parts.bytes.items)) (map (λ begun. begun.subtable) o.heads.items)) }
     ensures few { IfOk result (λ o. length o.heads.items ≤ 8) }
-    ensures place { OnOk result (front.new.place < 2 ^ 24) }
-    ensures growth { OnOk result (front.new.growth ≤ 2 * front.new.place + 20) }
-    ensures grown { IfOk result (λ o. HasCounted front.old front.new 0 (opening_lengths o)) }
+    ensures place { OnOk result (state.new.place < 2 ^ 24) }
+    ensures growth { OnOk result (state.new.growth ≤ 2 * state.new.place + 20) }
+    ensures grown { IfOk result (λ o. HasCounted state.old state.new 0 (opening_lengths o)) }
 {
-    let byte4 = read_start(material, kind, input, front)?;
-    let parts = read_parts(alloc, material, kind, input, front)?;
-    take_fill(alloc, 2, input, front)?;
-    let heads = read_heads(alloc, parts.slots.as_slice(), input, front)?;
-    let maps = read_maps(alloc, kind, &heads, input, front)?;
+    let byte4 = read_start(material, kind, input, state)?;
+    let parts = read_parts(alloc, material, kind, input, state)?;
+    take_fill(alloc, 2, input, state)?;
+    let heads = read_heads(alloc, parts.slots.as_slice(), input, state)?;
+    let maps = read_maps(alloc, kind, &heads, input, state)?;
     Ok(Opening {
         byte4,
         parts,
@@ -98,18 +98,18 @@ pub(crate) fn read_opening<R: Input>(
 pub(crate) fn read_ending<R: Input>(
     alloc: Global,
     input: &mut R,
-    front: &mut Front,
+    state: &mut ReaderState,
 ) -> Result<[u8; 16], ReadFault>
-    requires place { front.old.place < 2 ^ 56 }
-    requires paid { front.old.growth ≤ 2 * front.old.place + 44 }
-    ensures ending { Reading ending_field (λ last. last) front.old front.new R.Input input.old input.new result }
-    ensures place { OnOk result (front.new.place < front.old.place + 80) }
-    ensures grown { OnOk result (HasCounted front.old front.new 0 0) }
-    ensures memory { IsErrOf result ReadFault.Memory → Lacking ending_field front.old R.Input input.old input.new }
+    requires place { state.old.place < 2 ^ 56 }
+    requires growth_bound { state.old.growth ≤ 2 * state.old.place + 44 }
+    ensures ending { Reading ending_field (λ last. last) state.old state.new R.Input input.old input.new result }
+    ensures place { OnOk result (state.new.place < state.old.place + 80) }
+    ensures grown { OnOk result (HasCounted state.old state.new 0 0) }
+    ensures memory { IsErrOf result ReadFault.Memory → Lacking ending_field state.old R.Input input.old input.new }
 {
-    take_fill(alloc, 64, input, front)?;
+    take_fill(alloc, 64, input, state)?;
     let mut last = [0; 16];
-    take_field(input, front, &mut last)?;
+    take_field(input, state, &mut last)?;
     Ok(last)
 }
 
@@ -119,23 +119,23 @@ fn read_pieces<R: Input>(
     material: &Material,
     kind: Kind,
     input: &mut R,
-    front: &mut Front,
+    state: &mut ReaderState,
 ) -> Result<Pieces, ReadFault>
-    requires place { front.old.place ≡ 0 }
-    requires growth { front.old.growth ≡ 0 }
-    ensures pieces { Reading (file material.now kind) (contents_of material.now kind) front.old front.new R.Input input.old input.new result }
-    ensures memory { IsErrOf result ReadFault.Memory → Lacking (file material.now kind) front.old R.Input input.old input.new }
+    requires place { state.old.place ≡ 0 }
+    requires growth { state.old.growth ≡ 0 }
+    ensures pieces { Reading (file material.now kind) (contents_of material.now kind) state.old state.new R.Input input.old input.new result }
+    ensures memory { IsErrOf result ReadFault.Memory → Lacking (file material.now kind) state.old R.Input input.old input.new }
     ensures slots { IfOk result (λ p. p.parts.slots.items ≡ slots material.now kind (map part_of p.parts.bytes.items)) }
-    ensures grown { IfOk result (λ p. HasCounted front.old front.new 0 (pieces_lengths p)) }
+    ensures grown { IfOk result (λ p. HasCounted state.old state.new 0 (pieces_lengths p)) }
 {
     let FrontRead {
         byte4,
         parts,
         maps,
         measured,
-    } = read_front(alloc, material, kind, input, front)?;
-    let subs = read_blocks(alloc, measured, input, front)?;
-    let last = read_ending(alloc, input, front)?;
+    } = read_front(alloc, material, kind, input, state)?;
+    let subs = read_blocks(alloc, measured, input, state)?;
+    let last = read_ending(alloc, input, state)?;
     Ok(Pieces {
         byte4,
         parts,
@@ -171,20 +171,20 @@ pub fn read<R: Input>(
     ensures may_fail { IsErrOf result ReadFault.Device → IsTrue (R.may_fail input.old) }
     ensures quiet { (IsErrOf result ReadFault.Device → ⊥) → R.failures input.new ≡ R.failures input.old }
 {
-    let mut front = Front::new(alloc);
+    let mut state = ReaderState::new(alloc);
     let Pieces {
         byte4,
         parts,
         subs,
         maps,
         last,
-    } = read_pieces(alloc, &material, kind, input, &mut front)?;
+    } = read_pieces(alloc, &material, kind, input, &mut state)?;
     let index = index_of_subs(material, kind, parts, &subs, maps);
     Ok(Table {
         index,
         byte4,
         subs,
-        filled: front.fill,
+        filled: state.fill,
         last,
     })
 }

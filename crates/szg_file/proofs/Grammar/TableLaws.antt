@@ -27,9 +27,9 @@ begins : (text : List ℕ) (rows : List Section) (fill : List ℕ) → (more : L
 begins text [] fill = ([], sym (append-nil text))
 begins text (section ∷ rows) fill =
     let n : ℕ = fill_of section (length text) in
-    let piece : List ℕ = bytes_with section (take n fill) in
-    let rest = begins (text ++ piece) rows (drop n fill) in
-    (piece ++ rest.0, rest.1 ∙ append_assoc text piece rest.0)
+    let chunk : List ℕ = bytes_with section (take n fill) in
+    let rest = begins (text ++ chunk) rows (drop n fill) in
+    (chunk ++ rest.0, rest.1 ∙ append_assoc text chunk rest.0)
 
 begins_with_magic : (t : Contents) (fill : List ℕ) → (more : List ℕ) × (file_of t fill ≡ magic_of t.kind ++ more)
 unfolding file_of

@@ -26,7 +26,7 @@ use Rattle.szg_file.specs.Reading.{Reading}
 use Rattle.szg_file.specs.Unread.{FrontRead, BeginsWithFront, front_field, blocks_count, blocks_end, blocks_first, unread_subs}
 use Rattle.szg_file.specs.declared.fault.Reason.{Reason}
 use Rattle.szg_file.specs.declared.reading.dropping.PlacedSub.{PlacedSub}
-use Rattle.szg_file.specs.declared.reading.front.Front.{Front}
+use Rattle.szg_file.specs.declared.reading.state.ReaderState.{ReaderState}
 use Rattle.szg_file.specs.declared.reading.read_front.FrontRead as read
 use Rattle.szg_file.proofs.Grammar.FileLaws.{field_text, parts}
 use Rattle.szg_file.proofs.Grammar.FormatLaws.{drop_front, take_front}
@@ -326,7 +326,7 @@ coming_begins P size bytes None coming' gone h = tt
 coming_begins P size bytes (Some all) None gone h = absurd gone
 coming_begins P size bytes (Some all) (Some rest) gone h = λ long. h all long (ap (λ (z : List ℕ). take (length bytes) z) gone ∙ take_front (length bytes) bytes rest refl)
 
-pub coming_front : {R : Type 0} (P : List ℕ → Type 0) (material : Sides) (kind : Kind) (device : Ghosts R) (r : read.FrontRead) (size : ℕ) (begun ended : Front) (old new : R) → begun.place ≡ 0 →
+pub coming_front : {R : Type 0} (P : List ℕ → Type 0) (material : Sides) (kind : Kind) (device : Ghosts R) (r : read.FrontRead) (size : ℕ) (begun ended : ReaderState) (old new : R) → begun.place ≡ 0 →
     Reading (front_field material kind) front_read begun ended device old new (Ok r) →
     ((content : List ℕ) → length content ≡ size → BeginsWithFront material kind (front_read r) ended.place content → P content) → IfSome (device.coming old) (λ content. length content ≡ size → P content)
 coming_front P material kind device r size begun ended old new start h one =

@@ -11,13 +11,13 @@ written_whole len new old lent long same kept =
     ap (λ k. take k (new ++ drop (length new) old)) all ∙ take-append_seam new (drop (length new) old)
 
 -- `n` bytes of the chunk are copied to the front of a list
-module _ (content piece lent out : List ℕ) (place end from to n room : ℕ) (h : IsForward content place end piece from to) (same : lent ≡ piece)
+module _ (content chunk lent out : List ℕ) (place end from to n room : ℕ) (h : IsForward content place end chunk from to) (same : lent ≡ chunk)
     (count : n ≡ min (length (take (to - from) (drop from lent))) room) (copied : take n out ≡ take n (take (to - from) (drop from lent))) where
-  here : lent ≡ piece → length (take (to - from) (drop from lent)) ≡ to - from
+  here : lent ≡ chunk → length (take (to - from) (drop from lent)) ≡ to - from
   here e =
-      let long : length lent ≡ length piece = ap (λ (l : List ℕ). length l) e in
+      let long : length lent ≡ length chunk = ap (λ (l : List ℕ). length l) e in
       let i : from ≤ to = h.in_order in
-      let w : to ≤ length piece = h.within in
+      let w : to ≤ length chunk = h.within in
       let d : length (drop from lent) ≡ length lent - from = length-drop from lent in
       length-take (to - from) (drop from lent) ∙ omega arith
 
@@ -51,17 +51,17 @@ module _ (content piece lent out : List ℕ) (place end from to n room : ℕ) (h
   bytes_come = take-add place n content ∙ ap (λ u. take place content ++ u) (sym front_is)
 
   -- the remaining bytes of the chunk follow them
-  rest_held : take (to - (from + n)) (drop (from + n) piece) ≡ take (to - (from + n)) (drop (place + n) content)
+  rest_held : take (to - (from + n)) (drop (from + n) chunk) ≡ take (to - (from + n)) (drop (place + n) content)
   rest_held =
       let f : n ≤ to - from = few in
       let split : n + (to - (from + n)) ≡ to - from = omega arith in
-      let rest : drop n (take (n + (to - (from + n))) (drop from piece)) ≡ drop n (take (n + (to - (from + n))) (drop place content)) =
-      subst (λ k. drop n (take k (drop from piece)) ≡ drop n (take k (drop place content))) (sym split) (ap (λ (l : List ℕ). drop n l) h.held) in
-      ap (λ (l : List ℕ). take (to - (from + n)) l) (sym (drop-drop n from piece))
-      ∙ sym (drop-take n (to - (from + n)) (drop from piece)) ∙ rest ∙ drop-take n (to - (from + n)) (drop place content)
+      let rest : drop n (take (n + (to - (from + n))) (drop from chunk)) ≡ drop n (take (n + (to - (from + n))) (drop place content)) =
+      subst (λ k. drop n (take k (drop from chunk)) ≡ drop n (take k (drop place content))) (sym split) (ap (λ (l : List ℕ). drop n l) h.held) in
+      ap (λ (l : List ℕ). take (to - (from + n)) l) (sym (drop-drop n from chunk))
+      ∙ sym (drop-take n (to - (from + n)) (drop from chunk)) ∙ rest ∙ drop-take n (to - (from + n)) (drop place content)
       ∙ ap (λ (l : List ℕ). take (to - (from + n)) l) (drop-drop n place content)
 
-  pub goes_on : IsForward content (place + n) end piece (from + n) to
+  pub goes_on : IsForward content (place + n) end chunk (from + n) to
   goes_on =
       let f : n ≤ to - from = few in
       let o : from ≤ to = h.in_order in

@@ -19,7 +19,7 @@ use Rattle.szg_file.specs.declared.fault.Reason.{Reason}
 use Rattle.szg_file.specs.declared.fault.Reason.TheVariants.{Truncated}
 use Rattle.szg_file.specs.declared.fault.ReadFault.{ReadFault}
 use Rattle.szg_file.specs.declared.fault.ReadFault.TheVariants.{Refused, Device, Memory}
-use Rattle.szg_file.specs.declared.reading.front.Front.{Front}
+use Rattle.szg_file.specs.declared.reading.state.ReaderState.{ReaderState}
 use Rattle.szg_file.specs.declared.reading.read_front.FrontRead as read
 use Rattle.szg_file.proofs.Grammar.FormatLaws.{take_front}
 use Rattle.szg_file.proofs.Openings.FrontLaws.{front_then}
@@ -31,15 +31,15 @@ use Rattle.szg_file.proofs.Readers.Taken.{reads_equal}
 
 module _ (material : Sides) (kind : Kind) where
   -- a whole front was read
-  pub front_begins : (f : FrontRead) (begun ended : Front) (bytes content : List ℕ) → begun.place ≡ 0 → Advances (front_field material kind) f begun ended bytes → take (length bytes) content ≡ bytes →
+  pub front_begins : (f : FrontRead) (begun ended : ReaderState) (bytes content : List ℕ) → begun.place ≡ 0 → Advances (front_field material kind) f begun ended bytes → take (length bytes) content ≡ bytes →
       BeginsWithFront material kind f ended.place content
   front_begins f begun ended bytes content start h begins = begins_by material kind f begun ended 0 (length bytes) ended.place [] content bytes content start refl begins h refl refl
 
-  pub front_place : (f : FrontRead) (begun ended : Front) (bytes : List ℕ) → begun.place ≡ 0 → Advances (front_field material kind) f begun ended bytes → ended.place ≡ length bytes
+  pub front_place : (f : FrontRead) (begun ended : ReaderState) (bytes : List ℕ) → begun.place ≡ 0 → Advances (front_field material kind) f begun ended bytes → ended.place ≡ length bytes
   front_place f begun ended bytes start h = omega (arith, h.place, start)
 
   -- a file of this size that begins with it
-  pub front_known : (f : FrontRead) (begun ended : Front) (bytes : List ℕ) (size : ℕ) → begun.place ≡ 0 → Advances (front_field material kind) f begun ended bytes → ended.place ≤ size →
+  pub front_known : (f : FrontRead) (begun ended : ReaderState) (bytes : List ℕ) (size : ℕ) → begun.place ≡ 0 → Advances (front_field material kind) f begun ended bytes → ended.place ≤ size →
       (content : List ℕ) × (length content ≡ size) × BeginsWithFront material kind f ended.place content
   front_known f begun ended bytes size start h enough =
       let rest : List ℕ = replicate (size - length bytes) 0 in
@@ -49,14 +49,14 @@ module _ (material : Sides) (kind : Kind) where
       (bytes ++ rest, omega (arith, at, long, more, enough), front_begins f begun ended bytes (bytes ++ rest) start h (take_front (length bytes) bytes rest refl))
 
   -- it isn't read to its end
-  stopped_stated : {X : Type 0} (view : X → Contents) (fault : ReadFault) (size : ℕ) (begun ended : Front) (coming : Option (List ℕ)) (failures failures' row : ℕ) (may_fail : Bool) (bytes : List ℕ) → begun.place ≡ 0 →
+  stopped_stated : {X : Type 0} (view : X → Contents) (fault : ReadFault) (size : ℕ) (begun ended : ReaderState) (coming : Option (List ℕ)) (failures failures' row : ℕ) (may_fail : Bool) (bytes : List ℕ) → begun.place ≡ 0 →
       Answer (unread_file material kind) view begun ended coming failures failures' row may_fail bytes (Err fault) → FrontOutcome material kind bytes size coming (Err fault)
   stopped_stated view (Refused place reason) size begun ended coming failures failures' row may_fail bytes start h =
       inl (subst (λ (n : ℕ). IsRefusal (verdict (unread_file material kind) n bytes) place reason coming) start h.0)
   stopped_stated view Device size begun ended coming failures failures' row may_fail bytes start h = tt
   stopped_stated view Memory size begun ended coming failures failures' row may_fail bytes start h = tt
 
-  pub front_stopped : {R : Type 0} (device : Ghosts R) (fault : ReadFault) (size : ℕ) (begun ended : Front) (old new : R) → begun.place ≡ 0 →
+  pub front_stopped : {R : Type 0} (device : Ghosts R) (fault : ReadFault) (size : ℕ) (begun ended : ReaderState) (old new : R) → begun.place ≡ 0 →
       Reading (front_field material kind) front_read begun ended device old new (Err fault) → IsFrontRead device material kind size old new (Err fault)
   front_stopped device fault size begun ended old new start h =
       let view : read.FrontRead → Contents = λ r. unread_table material kind (front_read r) [] [] in
@@ -66,7 +66,7 @@ module _ (material : Sides) (kind : Kind) where
 
   -- ---- a whole front was read
 
-  module _ {R : Type 0} (device : Ghosts R) (r : read.FrontRead) (size : ℕ) (begun ended : Front) (old new : R) (start : begun.place ≡ 0) (h : Reading (front_field material kind) front_read begun ended device old new (Ok r)) where
+  module _ {R : Type 0} (device : Ghosts R) (r : read.FrontRead) (size : ℕ) (begun ended : ReaderState) (old new : R) (start : begun.place ≡ 0) (h : Reading (front_field material kind) front_read begun ended device old new (Ok r)) where
     at_end : ended.place ≡ length h.bytes
     at_end = front_place (front_read r) begun ended h.bytes start h.answer.0
 

@@ -21,7 +21,7 @@ use Rattle.szg_file.specs.Unread.{FrontRead, BeginsWithFront, front_field, unrea
 use Rattle.szg_file.specs.WholeRead.{Refuses}
 use Rattle.szg_file.specs.declared.reading.dropping.PlacedSub.{PlacedSub}
 use Rattle.szg_file.specs.declared.fault.Reason.TheVariants.{Truncated}
-use Rattle.szg_file.specs.declared.reading.front.Front.{Front}
+use Rattle.szg_file.specs.declared.reading.state.ReaderState.{ReaderState}
 use Rattle.szg_file.proofs.Grammar.FormatLaws.{good-more, take_front}
 use Rattle.szg_file.proofs.Openings.OpenedLaws.{forward_moved}
 use Rattle.szg_file.proofs.Openings.OutlinedLaws.{flags_whole}
@@ -85,7 +85,7 @@ module _ (material : Sides) (kind : Kind) (f : FrontRead) (place : ℕ) (content
       subst (λ (v : Verdict Contents). Refuses v size Truncated) (sym (front_cut material kind f content place h.filled (drop place content) begins refl h.inside short)) (sym long, refl)
 
 -- a reader over a source that began at the first byte has read a front
-pub begins_by : (material : Sides) (kind : Kind) (f : FrontRead) (begun ended : Front) (from to place : ℕ) (old new bytes content : List ℕ) → begun.place ≡ 0 → from ≡ 0 → take to new ≡ take from old ++ bytes →
+pub begins_by : (material : Sides) (kind : Kind) (f : FrontRead) (begun ended : ReaderState) (from to place : ℕ) (old new bytes content : List ℕ) → begun.place ≡ 0 → from ≡ 0 → take to new ≡ take from old ++ bytes →
     Advances (front_field material kind) f begun ended bytes → content ≡ new → place ≡ ended.place → BeginsWithFront material kind f place content
 begins_by material kind f begun ended from to place old new bytes content start first came h same at =
     let moved : take to new ≡ bytes = forward_moved from to old new bytes first came in

@@ -29,7 +29,7 @@ use Rattle.szg_file.specs.Values.{item, subtable_at, constant_value, values_of}
 use Rattle.szg_file.specs.declared.fault.Reason.{Reason}
 use Rattle.szg_file.specs.declared.fault.ReadFault.{ReadFault}
 use Rattle.szg_file.specs.declared.fault.ReadFault.TheVariants.{Refused, Device, Memory}
-use Rattle.szg_file.specs.declared.reading.front.Front.{Front}
+use Rattle.szg_file.specs.declared.reading.state.ReaderState.{ReaderState}
 use Rattle.szg_file.specs.declared.reading.outline.Outline.{Outline}
 use Rattle.szg_file.specs.declared.reading.dropping.PlacedSub.{PlacedSub}
 use Rattle.szg_file.proofs.Grammar.FormatLaws.{good-more}
@@ -209,7 +209,7 @@ opens material kind content moved rest o fill room e whole accepted placed fits 
       fits = still_fit (length moved) (length content) room room o.subs.items (omega (arith, more)) (omega arith) fits;
     }
 
-pub opened_by : (material : Sides) (kind : Kind) (o : Outline) (begun ended : Front) (from to : ℕ) (old new bytes content : List ℕ) (room room' : ℕ) → begun.place ≡ 0 → begun.fill.items ≡ [] →
+pub opened_by : (material : Sides) (kind : Kind) (o : Outline) (begun ended : ReaderState) (from to : ℕ) (old new bytes content : List ℕ) (room room' : ℕ) → begun.place ≡ 0 → begun.fill.items ≡ [] →
     from ≡ 0 → take to new ≡ take from old ++ bytes → Advances (file material kind) (outlined material kind (take to new) o) begun ended bytes →
     o.parts.slots.items ≡ slots material kind (map part_of o.parts.bytes.items) → AllByRecursion (Fits (length (take to new)) room) o.subs.items →
     content ≡ new → room' ≡ room → IsOpened material kind content room' o.parts.slots.items o.subs.items
@@ -225,7 +225,7 @@ refused_follows (good t filled rest) place reason coming h = absurd h
 refused_follows (refused at why rest) place reason coming h = (h.0, h.1)
 refused_follows (truncated count) place reason coming h = (h.0, h.1)
 
-pub refusal_follows : {X R : Type 0} (f : Format Contents) (view : X → Contents) (fault : ReadFault) (all : List ℕ) {o n : Front}
+pub refusal_follows : {X R : Type 0} (f : Format Contents) (view : X → Contents) (fault : ReadFault) (all : List ℕ) {o n : ReaderState}
     {dev : Ghosts R} {i k : R} → o.place ≡ 0 → dev.coming i ≡ Some all → Reading f view o n dev i k (Err fault) → IsOpenRefusal (verdict f 0 all) (opened_fault fault)
 refusal_follows f view (Refused place reason) all {dev = dev} {i = i} {k = k} first stated h =
     let follows : IfSome (dev.coming i) (λ all. FollowsVerdict (verdict f 0 all) (Err (Refused place reason)) (dev.coming k)) = fault_follows f view (Refused place reason) first h (λ e. absurd cc) in

@@ -17,7 +17,7 @@ use Rattle.szg_file.specs.Placed.{whole_sub}
 use Rattle.szg_file.specs.Reading.{Advances}
 use Rattle.szg_file.specs.Values.{subtable_at}
 use Rattle.szg_file.specs.declared.reading.dropping.PlacedSub.{PlacedSub}
-use Rattle.szg_file.specs.declared.reading.front.Front.{Front}
+use Rattle.szg_file.specs.declared.reading.state.ReaderState.{ReaderState}
 use Rattle.szg_file.specs.declared.reading.outline.Outline.{Outline}
 use Rattle.szg_file.proofs.Grammar.FormatLaws.{good-more}
 use Rattle.szg_file.proofs.Readers.ReadAnswers.{whole_file}
@@ -57,7 +57,7 @@ abbrev pub outline_index : Sides → Kind → Outline → Index
 outline_index material kind o =
     index_with material kind (map part_of o.parts.bytes.items) (map (λ placed. flags_of (subtable_of placed.sub)) o.subs.items) (map (option_map map_of) o.maps.items)
 
-pub outlined_index : (material : Sides) (kind : Kind) (o : Outline) (begun ended : Front) (from to : ℕ) (old new bytes : List ℕ) → begun.place ≡ 0 → begun.fill.items ≡ [] →
+pub outlined_index : (material : Sides) (kind : Kind) (o : Outline) (begun ended : ReaderState) (from to : ℕ) (old new bytes : List ℕ) → begun.place ≡ 0 → begun.fill.items ≡ [] →
     Advances (file material kind) (outlined material kind (take to new) o) begun ended bytes → IsIndex (outline_index material kind o)
 outlined_index material kind o begun ended from to old new bytes place fill h =
     let table : Contents = outlined material kind (take to new) o in
@@ -65,7 +65,7 @@ outlined_index material kind o begun ended from to old new bytes place fill h =
     subst (λ (flags : List ℕ). IsIndex (index_with material kind table.parts flags table.maps)) (flags_whole (take to new) o.subs.items) (accepted_index table ended.fill.items w.accepted)
 
 -- the contents that were read are the table whose file the source's bytes begin with
-pub outlined_by : (material : Sides) (kind : Kind) (o : Outline) (begun ended : Front) (from to : ℕ) (old new bytes content : List ℕ) (x : Index) → begun.place ≡ 0 → begun.fill.items ≡ [] →
+pub outlined_by : (material : Sides) (kind : Kind) (o : Outline) (begun ended : ReaderState) (from to : ℕ) (old new bytes content : List ℕ) (x : Index) → begun.place ≡ 0 → begun.fill.items ≡ [] →
     from ≡ 0 → take to new ≡ take from old ++ bytes → Advances (file material kind) (outlined material kind (take to new) o) begun ended bytes → content ≡ new →
     x ≡ outline_index material kind o → IsIndexIn x content
 outlined_by material kind o begun ended from to old new bytes content x place fill first came h same is =

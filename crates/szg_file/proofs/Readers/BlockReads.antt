@@ -13,7 +13,7 @@ use Rattle.szg_block.specs.Subtable.{layout_of}
 use Rattle.szg_block.specs.declared.Sub.{Sub}
 use Rattle.szg_block.specs.declared.Sub.TheVariants.{Constant, Pairs}
 use Rattle.szg_block.proofs.Deciding.{spells_needed-true, spells_needed-of}
-use Rattle.szg_file.specs.declared.reading.front.Front.{Front}
+use Rattle.szg_file.specs.declared.reading.state.ReaderState.{ReaderState}
 use Rattle.szg_file.specs.declared.fault.Reason.TheVariants.{Word}
 use Rattle.szg_file.specs.declared.fault.ReadFault.{ReadFault}
 use Rattle.szg_file.specs.declared.fault.ReadFault.TheVariants.{Refused}
@@ -35,22 +35,22 @@ abbrev then_checked : Layout → ℕ → ℕ → ℕ → List ℕ → Format (Li
 then_checked layout size n place bytes = demand (spells_needed layout size n bytes) place Word >>= λ _. means bytes
 
 -- a block that spells the values that it needs
-pub reads_block : {R : Type 0} (o : Option Layout) (size n bytes : ℕ) (piece : List ℕ) {f m : Front}
+pub reads_block : {R : Type 0} (o : Option Layout) (size n bytes : ℕ) (chunk : List ℕ) {f m : ReaderState}
     {dev : Ghosts R} {i k : R} →
-    IfSome o (λ layout. IsCode layout.code) → IfSome o (λ layout. bytes ≡ 2 ^ layout.block_bits) → IsSomeAnd o (λ layout. SpellsNeeded layout size n piece) →
-    Reading (field bytes means) (λ (_ : Unit {0}). piece) f m dev i k (Ok tt) →
-    IfSome o (λ layout. Reading (block_field layout size n) (λ (_ : Unit {0}). piece) f m dev i k (Ok tt))
-reads_block None size n bytes piece code long spells taken = tt
-reads_block (Some layout) size n bytes piece {f = f} code long spells taken =
+    IfSome o (λ layout. IsCode layout.code) → IfSome o (λ layout. bytes ≡ 2 ^ layout.block_bits) → IsSomeAnd o (λ layout. SpellsNeeded layout size n chunk) →
+    Reading (field bytes means) (λ (_ : Unit {0}). chunk) f m dev i k (Ok tt) →
+    IfSome o (λ layout. Reading (block_field layout size n) (λ (_ : Unit {0}). chunk) f m dev i k (Ok tt))
+reads_block None size n bytes chunk code long spells taken = tt
+reads_block (Some layout) size n bytes chunk {f = f} code long spells taken =
     let next : List ℕ → Format (List ℕ) = then_checked layout size n f.place in
-    let passes : next piece ≡ means piece = ap (λ (b : Bool). demand b f.place Word >>= λ _. means piece) (spells_needed-of layout code size n piece spells) in
-    reads_like (field (2 ^ layout.block_bits) means >>= next) (block_field layout size n) (λ (_ : Unit {0}). piece) (Ok tt) (λ text. refl)
-    (reads_then (field (2 ^ layout.block_bits) means) next (λ (_ : Unit {0}). piece) (λ (_ : Unit {0}). piece) tt
-    (reads_equal (field bytes means) (field (2 ^ layout.block_bits) means) (λ (_ : Unit {0}). piece) (Ok tt) (ap (λ (z : ℕ). field z means) long) taken)
-    (reads_nothing (next piece) (λ (_ : Unit {0}). piece) tt passes))
+    let passes : next chunk ≡ means chunk = ap (λ (b : Bool). demand b f.place Word >>= λ _. means chunk) (spells_needed-of layout code size n chunk spells) in
+    reads_like (field (2 ^ layout.block_bits) means >>= next) (block_field layout size n) (λ (_ : Unit {0}). chunk) (Ok tt) (λ text. refl)
+    (reads_then (field (2 ^ layout.block_bits) means) next (λ (_ : Unit {0}). chunk) (λ (_ : Unit {0}). chunk) tt
+    (reads_equal (field bytes means) (field (2 ^ layout.block_bits) means) (λ (_ : Unit {0}). chunk) (Ok tt) (ap (λ (z : ℕ). field z means) long) taken)
+    (reads_nothing (next chunk) (λ (_ : Unit {0}). chunk) tt passes))
 
 -- a block that was not read whole
-pub reads_block_stopped : {R : Type 0} (o : Option Layout) (size n bytes : ℕ) (view view' : Unit {0} → List ℕ) (fault : ReadFault) {f m : Front}
+pub reads_block_stopped : {R : Type 0} (o : Option Layout) (size n bytes : ℕ) (view view' : Unit {0} → List ℕ) (fault : ReadFault) {f m : ReaderState}
     {dev : Ghosts R} {i k : R} →
     IfSome o (λ layout. bytes ≡ 2 ^ layout.block_bits) → Reading (field bytes means) view f m dev i k (Err fault) →
     IfSome o (λ layout. Reading (block_field layout size n) view' f m dev i k (Err fault))
@@ -62,20 +62,20 @@ reads_block_stopped (Some layout) size n bytes view view' fault {f = f} long tak
     (reads_equal (field bytes means) (field (2 ^ layout.block_bits) means) view (Err fault) (ap (λ (z : ℕ). field z means) long) taken))
 
 -- any other block is refused at its first byte
-pub reads_block_refused : {R : Type 0} (o : Option Layout) (size n bytes : ℕ) (piece : List ℕ) (view : Unit {0} → List ℕ) {f m : Front}
+pub reads_block_refused : {R : Type 0} (o : Option Layout) (size n bytes : ℕ) (chunk : List ℕ) (view : Unit {0} → List ℕ) {f m : ReaderState}
     {dev : Ghosts R} {i k : R} →
-    IfSome o (λ layout. bytes ≡ 2 ^ layout.block_bits) → IsSomeAnd o (λ layout. ¬ SpellsNeeded layout size n piece) →
-    Reading (field bytes means) (λ (_ : Unit {0}). piece) f m dev i k (Ok tt) →
+    IfSome o (λ layout. bytes ≡ 2 ^ layout.block_bits) → IsSomeAnd o (λ layout. ¬ SpellsNeeded layout size n chunk) →
+    Reading (field bytes means) (λ (_ : Unit {0}). chunk) f m dev i k (Ok tt) →
     IfSome o (λ layout. Reading (block_field layout size n) view f m dev i k (Err (Refused f.place Word)))
-reads_block_refused None size n bytes piece view long lacks taken = tt
-reads_block_refused (Some layout) size n bytes piece view {f = f} long lacks taken =
+reads_block_refused None size n bytes chunk view long lacks taken = tt
+reads_block_refused (Some layout) size n bytes chunk view {f = f} long lacks taken =
     let next : List ℕ → Format (List ℕ) = then_checked layout size n f.place in
-    let stops : next piece ≡ refuses f.place Word =
-    ap (λ (b : Bool). demand b f.place Word >>= λ _. means piece) (false_from_ne_true (spells_needed layout size n piece) (λ e. lacks (spells_needed-true layout size n piece e))) in
+    let stops : next chunk ≡ refuses f.place Word =
+    ap (λ (b : Bool). demand b f.place Word >>= λ _. means chunk) (false_from_ne_true (spells_needed layout size n chunk) (λ e. lacks (spells_needed-true layout size n chunk e))) in
     reads_like (field (2 ^ layout.block_bits) means >>= next) (block_field layout size n) view (Err (Refused f.place Word)) (λ text. refl)
-    (reads_then (field (2 ^ layout.block_bits) means) next (λ (_ : Unit {0}). piece) view tt
-    (reads_equal (field bytes means) (field (2 ^ layout.block_bits) means) (λ (_ : Unit {0}). piece) (Ok tt) (ap (λ (z : ℕ). field z means) long) taken)
-    (reads_refused (next piece) view f.place Word stops))
+    (reads_then (field (2 ^ layout.block_bits) means) next (λ (_ : Unit {0}). chunk) view tt
+    (reads_equal (field bytes means) (field (2 ^ layout.block_bits) means) (λ (_ : Unit {0}). chunk) (Ok tt) (ap (λ (z : ℕ). field z means) long) taken)
+    (reads_refused (next chunk) view f.place Word stops))
 
 -- ---- blocks
 
@@ -113,7 +113,7 @@ blocks-cut layout size n b =
     blocks-append layout size 0 n b ∙ ap (λ (m : ℕ). blocks_from layout size 0 n >>= (λ xs. blocks_from layout size m b >>= λ ys. means (xs ++ ys))) here
 
 -- one more block
-pub reads_blocks_more : {X Y Z R : Type 0} (layout : Layout) (size n : ℕ) (view : X → List ℕ) (view' : Y → List ℕ) (view'' : Z → List ℕ) {f m h : Front}
+pub reads_blocks_more : {X Y Z R : Type 0} (layout : Layout) (size n : ℕ) (view : X → List ℕ) (view' : Y → List ℕ) (view'' : Z → List ℕ) {f m h : ReaderState}
     {dev : Ghosts R} {i j k : R} (v : X) (y : Y) (z : Z) → view'' z ≡ view v ++ view' y →
     Reading (blocks_from layout size 0 n) view f m dev i j (Ok v) →
     Reading (block_field layout size n) view' m h dev j k (Ok y) →
@@ -127,7 +127,7 @@ reads_blocks_more layout size n view view' view'' v y z e first second =
     (reads_nothing (means (view v ++ (view' y ++ []))) view'' z (ap means (ap (λ (l : List ℕ). view v ++ l) (append-nil (view' y)) ∙ sym e))))))
 
 -- a fault within a block ends the reading of all blocks
-pub reads_blocks_stopped : {X Y Z R : Type 0} (layout : Layout) (size n : ℕ) (view : X → List ℕ) (view' : Y → List ℕ) (view'' : Z → List ℕ) {f m h : Front}
+pub reads_blocks_stopped : {X Y Z R : Type 0} (layout : Layout) (size n : ℕ) (view : X → List ℕ) (view' : Y → List ℕ) (view'' : Z → List ℕ) {f m h : ReaderState}
     {dev : Ghosts R} {i j k : R} (v : X) (fault : ReadFault) → n < layout.blocks →
     Reading (blocks_from layout size 0 n) view f m dev i j (Ok v) →
     Reading (block_field layout size n) view' m h dev j k (Err fault) →
@@ -154,7 +154,7 @@ pub constant_blocks : (slot : Slot) (sub : Sub) → layout_of sub ≡ None → b
 constant_blocks slot (Constant flags byte) e = refl
 constant_blocks slot (Pairs flags block_bits span_bits extra blocks code dict sparse lengths packed) e = absurd cc
 
-pub reads_sub : {R : Type 0} (slot : Slot) (size : ℕ) (sub sub' : Sub) (packed : Vec ℕ Global) {f m h : Front}
+pub reads_sub : {R : Type 0} (slot : Slot) (size : ℕ) (sub sub' : Sub) (packed : Vec ℕ Global) {f m h : ReaderState}
     {dev : Ghosts R} {i j k : R} →
     size ≡ slot.size → (layout_of sub ≡ None → ⊥) → subtable_of sub' ≡ with_blocks (subtable_of sub) packed.items →
     Reading (filled_to 64) (λ (_ : Unit {0}). tt) f m dev i j (Ok tt) →
@@ -172,7 +172,7 @@ reads_sub slot size (Pairs flags block_bits span_bits extra blocks code dict spa
     (reads_then all (λ p. means (found p)) view subtable_of packed (reads_equal _ all view (Ok packed) same_size read) (reads_nothing (means (found packed.items)) subtable_of sub' (ap means (sym same))))
 
 -- a fault within the padding ends the reading of a subtable's blocks
-pub reads_fill_stopped : {R : Type 0} (slot : Slot) (sub : Sub) (fault : ReadFault) {f h : Front}
+pub reads_fill_stopped : {R : Type 0} (slot : Slot) (sub : Sub) (fault : ReadFault) {f h : ReaderState}
     {dev : Ghosts R} {i k : R} → (layout_of sub ≡ None → ⊥) →
     Reading (filled_to 64) (λ (_ : Unit {0}). tt) f h dev i k (Err fault) →
     Reading (blocks_of slot (subtable_of sub)) subtable_of f h dev i k (Err fault)
@@ -184,7 +184,7 @@ reads_fill_stopped slot (Pairs flags block_bits span_bits extra blocks code dict
     let found : List ℕ → Subtable = λ p. pairs head entries lengths.items p in
     reads_stopped (filled_to 64) (λ _. all >>= λ p. means (found p)) (λ (_ : Unit {0}). tt) subtable_of fault filled
 
-pub reads_sub_stopped : {R : Type 0} (slot : Slot) (size : ℕ) (sub : Sub) (fault : ReadFault) {f m h : Front}
+pub reads_sub_stopped : {R : Type 0} (slot : Slot) (size : ℕ) (sub : Sub) (fault : ReadFault) {f m h : ReaderState}
     {dev : Ghosts R} {i j k : R} →
     size ≡ slot.size → (layout_of sub ≡ None → ⊥) →
     Reading (filled_to 64) (λ (_ : Unit {0}). tt) f m dev i j (Ok tt) →

@@ -4,7 +4,7 @@ use Rattle.std.proofs.Common.{◌≡◌, ℕ, ◌+◌, ◌*◌, ◌≤◌, List,
 use Rattle.std.proofs.lemmas.List.{length-map}
 use Rattle.szg_values.specs.declared.Kind.{Kind}
 use Rattle.szg_values.specs.Material.{Sides}
-use Rattle.szg_file.specs.declared.reading.front.Front.{Front}
+use Rattle.szg_file.specs.declared.reading.state.ReaderState.{ReaderState}
 use Rattle.szg_file.specs.declared.reading.Pieces.{Pieces}
 use Rattle.szg_file.specs.FilePieces.{contents_of}
 use Rattle.szg_file.specs.Grown.{HasCounted, pieces_lengths}
@@ -14,10 +14,10 @@ use Rattle.szg_file.specs.WholeRead.{sub_lengths, map_lengths, list_lengths}
 use Rattle.szg_file.proofs.Readers.Grown.{sum_shown}
 
 -- the table of these contents, with the padding bytes of the reader state
-abbrev pub shown_by : Sides → Kind → Pieces → Front → Shown
-shown_by m k p front = record { contents = contents_of m k p; filled = front.fill.items }
+abbrev pub shown_by : Sides → Kind → Pieces → ReaderState → Shown
+shown_by m k p state = record { contents = contents_of m k p; filled = state.fill.items }
 
-pub lists_were_counted : (m : Sides) (k : Kind) (p : Pieces) (first last : Front) (bytes : List ℕ) →
+pub lists_were_counted : (m : Sides) (k : Kind) (p : Pieces) (first last : ReaderState) (bytes : List ℕ) →
     first.place ≡ 0 → first.growth ≡ 0 → first.fill.items ≡ [] →
     last.place ≡ first.place + length bytes → bytes ≡ file_bytes (shown_by m k p last) → HasCounted first last 0 (pieces_lengths p) →
     list_lengths (shown_by m k p last) ≤ 4 * length (file_bytes (shown_by m k p last)) + 65536

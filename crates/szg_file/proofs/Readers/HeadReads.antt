@@ -15,7 +15,7 @@ use Rattle.szg_pairs.specs.declared.DictFault.{DictFault}
 use Rattle.szg_pairs.specs.declared.DictFault.TheVariants as dict
 use Rattle.szg_pairs.proofs.Deciding.{first_child-None, first_child-Some, first_cycle-None, first_cycle-Some, first_long-None, first_long-Some}
 use Rattle.szg_pairs.proofs.Accepting as dictionaries
-use Rattle.szg_file.specs.declared.reading.front.Front.{Front}
+use Rattle.szg_file.specs.declared.reading.state.ReaderState.{ReaderState}
 use Rattle.szg_file.specs.declared.fault.Reason.TheVariants as reason
 use Rattle.szg_file.specs.declared.fault.ReadFault.{ReadFault}
 use Rattle.szg_file.specs.declared.fault.ReadFault.TheVariants.{Refused, Device, Memory}
@@ -31,7 +31,7 @@ use Rattle.szg_file.proofs.Readers.LoopReads.{reads_lacking}
 -- ---- readings
 
 -- A fault is independent of the value that was being read.
-pub reads_failed : {A X Y R : Type 0} (f : Format A) (view : X → A) (view' : Y → A) {o m n : Front}
+pub reads_failed : {A X Y R : Type 0} (f : Format A) (view : X → A) (view' : Y → A) {o m n : ReaderState}
     {dev : Ghosts R} {i j : R} (fault : ReadFault) →
     Reading f view o m dev i j (Err fault) →
     Reading f view' o n dev i j (Err fault)
@@ -140,7 +140,7 @@ abbrev after_rows : ℕ → List (List ℕ) → Format (List (List ℕ))
 after_rows place entries = entries_check place entries >> means entries
 
 -- entries that were not read whole
-pub entries_unread : {X Y R : Type 0} (count : ℕ) (view : X → List (List ℕ)) (view' : Y → List (List ℕ)) {o n : Front}
+pub entries_unread : {X Y R : Type 0} (count : ℕ) (view : X → List (List ℕ)) (view' : Y → List (List ℕ)) {o n : ReaderState}
     {dev : Ghosts R} {i k : R} (fault : ReadFault) →
     Reading (rows_field 3 count) view o n dev i k (Err fault) →
     Reading (entries_field count) view' o n dev i k (Err fault)
@@ -149,7 +149,7 @@ entries_unread count view view' {o = o} fault h =
     (reads_stopped (rows_field 3 count) (after_rows o.place) view view' fault h)
 
 -- entries that were read and that are accepted
-pub entries_read : {X Y R : Type 0} (count : ℕ) (view : X → List (List ℕ)) (view' : Y → List (List ℕ)) {o n : Front}
+pub entries_read : {X Y R : Type 0} (count : ℕ) (view : X → List (List ℕ)) (view' : Y → List (List ℕ)) {o n : ReaderState}
     {dev : Ghosts R} {i k : R} (x : X) (y : Y) → view' y ≡ view x → IsDictionary (view x) →
     Reading (rows_field 3 count) view o n dev i k (Ok x) →
     Reading (entries_field count) view' o n dev i k (Ok y)
@@ -159,7 +159,7 @@ entries_read count view view' {o = o} x y same is_valid h =
     (reads_nothing (after_rows o.place (view x)) view' y (ap (λ (f : Format (Unit {0})). f >> means (view x)) (entries_pass o.place (view x) is_valid) ∙ ap means (sym same))))
 
 -- entries that were read and that are refused
-pub entries_stopped : {X Y R : Type 0} (count : ℕ) (view : X → List (List ℕ)) (view' : Y → List (List ℕ)) {o n : Front}
+pub entries_stopped : {X Y R : Type 0} (count : ℕ) (view : X → List (List ℕ)) (view' : Y → List (List ℕ)) {o n : ReaderState}
     {dev : Ghosts R} {i k : R} (x : X) (r : ReadFault) →
     ((r ≡ Memory → ⊥) → Refuses (entries_check o.place (view x)) r) →
     Reading (rows_field 3 count) view o n dev i k (Ok x) →

@@ -16,7 +16,7 @@ use Rattle.szg_block.specs.FirstFault.{has_total, first_bad_entry}
 use Rattle.szg_block.specs.Subtable.{IsFaultOf}
 use Rattle.szg_block.specs.declared.SubFault.TheVariants.{ShortTotal, SparseEntry as BadEntry}
 use Rattle.szg_block.proofs.Deciding.{has_total-true, has_total-of, first_bad_entry-None, first_bad_entry-Some}
-use Rattle.szg_file.specs.declared.reading.front.Front.{Front}
+use Rattle.szg_file.specs.declared.reading.state.ReaderState.{ReaderState}
 use Rattle.szg_file.specs.declared.fault.Reason.{Reason}
 use Rattle.szg_file.specs.declared.fault.Reason.TheVariants as reason
 use Rattle.szg_file.specs.declared.fault.ReadFault.{ReadFault}
@@ -126,7 +126,7 @@ following_lengths slot index head sparse packed place numbers =
     index_check place index (layout_of head sparse numbers) slot.size >> means (record { slot = slot; subtable = pairs head sparse numbers packed; index = index })
 
 -- block lengths that were read, and the results of the checks after them
-pub lengths_checked : {X R : Type 0} (slot : Slot) (index size : ℕ) (head : Head) (sparse : List SparseEntry) (old packed : List ℕ) (view : X → List ℕ) (v : X) (refusal : Option (ℕ × Reason)) {o n : Front}
+pub lengths_checked : {X R : Type 0} (slot : Slot) (index size : ℕ) (head : Head) (sparse : List SparseEntry) (old packed : List ℕ) (view : X → List ℕ) (v : X) (refusal : Option (ℕ × Reason)) {o n : ReaderState}
     {dev : Ghosts R} {i k : R} → size ≡ slot.size →
     Reading (numbers_field (head.blocks + head.extra)) view o n dev i k (Ok v) →
     Checks (index_check o.place index (layout_of head sparse (view v)) size) refusal →

@@ -3,7 +3,7 @@ use Rattle.std.proofs.Common.{◌≡◌, ℕ, ◌+◌, List, [], ◌++◌, lengt
 use Rattle.std.specs.Prelude.{Result, IsErrOf}
 use Rattle.szg_io.proofs.DeviceLaws.{Takes-on}
 use Rattle.szg_io.specs.declared.device.Input.{Ghosts}
-use Rattle.szg_file.specs.declared.reading.front.Front.{Front}
+use Rattle.szg_file.specs.declared.reading.state.ReaderState.{ReaderState}
 use Rattle.szg_file.specs.declared.fault.ReadFault.{ReadFault}
 use Rattle.szg_file.specs.declared.fault.ReadFault.TheVariants.{Refused, Device, Memory}
 use Rattle.szg_file.specs.Format.{Format, means, field, Verdict, verdict, after_fill, ◌>>=◌}
@@ -24,7 +24,7 @@ use Rattle.szg_file.proofs.Readers.Taken.{reads_equal}
 use Rattle.szg_file.proofs.Readers.WholeReads.{reads_made}
 
 -- If more bytes are needed after the text that was read, it is not the whole text.
-pub lacks_more : {A B X R : Type 0} (f : Format A) (g : A → Format B) (view : X → A) (fault : ReadFault) {o n : Front}
+pub lacks_more : {A B X R : Type 0} (f : Format A) (g : A → Format B) (view : X → A) (fault : ReadFault) {o n : ReaderState}
     {dev : Ghosts R} {i k : R} →
     ((a : A) (at : ℕ) → IsCut (verdict (g a) at [])) →
     Reading f view o n dev i k (Err fault) → fault ≡ Memory → Lacking (f >>= g) o dev i k
@@ -37,13 +37,13 @@ lacks_more f g view Memory {o = o} needs h e = record {
 }
 
 -- A reading of the first format that lacks bytes lacks them for the sequence, too.
-pub lacks_first : {A B R : Type 0} (f : Format A) (g : A → Format B) {o : Front}
+pub lacks_first : {A B R : Type 0} (f : Format A) (g : A → Format B) {o : ReaderState}
     {dev : Ghosts R} {i k : R} →
     Lacking f o dev i k → Lacking (f >>= g) o dev i k
 lacks_first f g {o = o} h = record { bytes = h.bytes; taken = h.taken; short = cut-first f g o.place h.bytes h.short }
 
 -- A second reading lacks bytes after a whole first text.
-pub lacks_then : {A B X R : Type 0} (f : Format A) (g : A → Format B) (view : X → A) {o m : Front}
+pub lacks_then : {A B X R : Type 0} (f : Format A) (g : A → Format B) (view : X → A) {o m : ReaderState}
     {dev : Ghosts R} {i j k : R} (v : X) →
     Reading f view o m dev i j (Ok v) → Lacking (g (view v)) m dev j k → Lacking (f >>= g) o dev i k
 lacks_then f g view {o = o} {m = m} v first second =
@@ -87,16 +87,16 @@ memory_states {X = X} fault e = ap (λ (f : ReadFault). let r : Result X ReadFau
 -- ---- readings that stop
 
 -- A fault ends the reading; with `Memory`, the text is not whole.
-pub record Stops {A X R : Type 0} (f : Format A) (view : X → A) (old new : Front) (dev : Ghosts R) (input input' : R) (fault : ReadFault) : Type 0 where
+pub record Stops {A X R : Type 0} (f : Format A) (view : X → A) (old new : ReaderState) (dev : Ghosts R) (input input' : R) (fault : ReadFault) : Type 0 where
   pub read : Reading f view old new dev input input' (Err fault)
   pub lacks : IsErrOf {T = X} (Err fault) Memory → Lacking f old dev input input'
 
-stops_equal : {A X R : Type 0} (f g : Format A) (view : X → A) {o n : Front} {dev : Ghosts R} {i k : R} (fault : ReadFault) → f ≡ g →
+stops_equal : {A X R : Type 0} (f g : Format A) (view : X → A) {o n : ReaderState} {dev : Ghosts R} {i k : R} (fault : ReadFault) → f ≡ g →
     Stops f view o n dev i k fault → Stops g view o n dev i k fault
 stops_equal f g view {o = o} {n = n} {dev = dev} {i = i} {k = k} fault e h = subst (λ (t : Format _). Stops t view o n dev i k fault) e h
 
 -- The first reading stops, and more bytes are needed after its text.
-pub stops_first : {A B X Y R : Type 0} (f : Format A) (g : A → Format B) (view : X → A) (view' : Y → B) {o n : Front} {dev : Ghosts R} {i k : R} (fault : ReadFault) →
+pub stops_first : {A B X Y R : Type 0} (f : Format A) (g : A → Format B) (view : X → A) (view' : Y → B) {o n : ReaderState} {dev : Ghosts R} {i k : R} (fault : ReadFault) →
     ((a : A) (at : ℕ) → IsCut (verdict (g a) at [])) →
     Reading f view o n dev i k (Err fault) → Stops (f >>= g) view' o n dev i k fault
 stops_first f g view view' fault needs h = record {
@@ -105,7 +105,7 @@ stops_first f g view view' fault needs h = record {
 }
 
 -- The second reading stops.
-stops_then : {A B X Y R : Type 0} (f : Format A) (g : A → Format B) (view : X → A) (view' : Y → B) {o m n : Front} {dev : Ghosts R} {i j k : R} (v : X) (fault : ReadFault) →
+stops_then : {A B X Y R : Type 0} (f : Format A) (g : A → Format B) (view : X → A) (view' : Y → B) {o m n : ReaderState} {dev : Ghosts R} {i j k : R} (v : X) (fault : ReadFault) →
     Reading f view o m dev i j (Ok v) → Stops (g (view v)) view' m n dev j k fault → Stops (f >>= g) view' o n dev i k fault
 stops_then f g view view' v fault first second = record {
   read = reads_then f g view view' v first second.read;
@@ -113,7 +113,7 @@ stops_then f g view view' v fault first second = record {
 }
 
 -- The first of several readings stops.
-stops_within : {A B X Y R : Type 0} (f : Format A) (g : A → Format B) (view : X → A) (view' : Y → B) {o n : Front} {dev : Ghosts R} {i k : R} (fault : ReadFault) →
+stops_within : {A B X Y R : Type 0} (f : Format A) (g : A → Format B) (view : X → A) (view' : Y → B) {o n : ReaderState} {dev : Ghosts R} {i k : R} (fault : ReadFault) →
     Stops f view o n dev i k fault → Stops (f >>= g) view' o n dev i k fault
 stops_within f g view view' fault h = record {
   read = reads_stopped f g view view' fault h.read;
@@ -122,14 +122,14 @@ stops_within f g view view' fault h = record {
 
 -- ---- a whole file
 
-pub front_stops : {Y R : Type 0} (material : Sides) (kind : Kind) (view : Y → Contents) {f m : Front} {dev : Ghosts R} {i j : R} (fault : ReadFault) →
+pub front_stops : {Y R : Type 0} (material : Sides) (kind : Kind) (view : Y → Contents) {f m : ReaderState} {dev : Ghosts R} {i j : R} (fault : ReadFault) →
     Reading (front_field material kind) front_read f m dev i j (Err fault) → Stops (file material kind) view f m dev i j fault
 front_stops material kind view fault h =
     stops_equal (front_field material kind >>= after_front blocks_field material kind) (file material kind) view fault (front_then blocks_field material kind)
     (stops_first (front_field material kind) (after_front blocks_field material kind) front_read view fault (after_front_needed material kind) h)
 
 -- after a front that was read
-module _ {X Y R : Type 0} (material : Sides) (kind : Kind) (r : FrontRead) (view : X → List Subtable) (view' : Y → Contents) {f m n : Front} {dev : Ghosts R} {i j k : R}
+module _ {X Y R : Type 0} (material : Sides) (kind : Kind) (r : FrontRead) (view : X → List Subtable) (view' : Y → Contents) {f m n : ReaderState} {dev : Ghosts R} {i j k : R}
     (first : Reading (front_field material kind) front_read f m dev i j (Ok r)) where
   pub blocks_stop : (fault : ReadFault) → Reading (each blocks_field r.measured.items) view m n dev j k (Err fault) → Stops (file material kind) view' f n dev i k fault
   blocks_stop fault h =
@@ -137,7 +137,7 @@ module _ {X Y R : Type 0} (material : Sides) (kind : Kind) (r : FrontRead) (view
       (stops_then (front_field material kind) (after_front blocks_field material kind) front_read view' r fault first
       (stops_first (each blocks_field r.measured.items) (after_blocks material kind (front_read r)) view view' fault (after_blocks_needed material kind (front_read r)) h))
 
-  pub ending_stops : {z : Front} {l : R} (v : X) (fault : ReadFault) → Reading (each blocks_field r.measured.items) view m n dev j k (Ok v) →
+  pub ending_stops : {z : ReaderState} {l : R} (v : X) (fault : ReadFault) → Reading (each blocks_field r.measured.items) view m n dev j k (Ok v) →
       Stops ending_field (λ (last : List ℕ). last) n z dev k l fault → Stops (file material kind) view' f z dev i l fault
   ending_stops v fault h ending =
       stops_equal (front_field material kind >>= after_front blocks_field material kind) (file material kind) view' fault (front_then blocks_field material kind)
@@ -145,7 +145,7 @@ module _ {X Y R : Type 0} (material : Sides) (kind : Kind) (r : FrontRead) (view
       (stops_then (each blocks_field r.measured.items) (after_blocks material kind (front_read r)) view view' v fault h
       (stops_within ending_field (λ last. means (unread_table material kind (front_read r) (view v) last)) (λ (last : List ℕ). last) view' fault ending)))
 
-  pub file_read : {z : Front} {l : R} (v : X) (last : List ℕ) (w : Y) → view' w ≡ unread_table material kind (front_read r) (view v) last →
+  pub file_read : {z : ReaderState} {l : R} (v : X) (last : List ℕ) (w : Y) → view' w ≡ unread_table material kind (front_read r) (view v) last →
       Reading (each blocks_field r.measured.items) view m n dev j k (Ok v) → Reading ending_field (λ (last : List ℕ). last) n z dev k l (Ok last) →
       Reading (file material kind) view' f z dev i l (Ok w)
   file_read v last w same h ending =

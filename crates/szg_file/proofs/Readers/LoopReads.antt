@@ -2,7 +2,7 @@
 use Rattle.std.proofs.Common.{◌≡◌, ℕ, suc, ◌+◌, ◌<◌, List, [], ◌∷◌, ◌++◌, length, take, drop, get_or, refl, sym, ap, subst, ◌∙◌, arith, Ok, Err}
 use Rattle.std.proofs.Common.{drop-cons}
 use Rattle.std.proofs.lemmas.List.{take_more, take-append-drop}
-use Rattle.szg_file.specs.declared.reading.front.Front.{Front}
+use Rattle.szg_file.specs.declared.reading.state.ReaderState.{ReaderState}
 use Rattle.szg_file.specs.declared.fault.ReadFault.{ReadFault}
 use Rattle.szg_file.specs.declared.fault.ReadFault.TheVariants.{Memory}
 use Rattle.szg_file.specs.Format.{Format}
@@ -23,7 +23,7 @@ cut_at {X = X} xs i x there e =
     ∙ ap (λ (z : List X). take i xs ++ z) (drop-cons xs i x there ∙ ap (λ (y : X). y ∷ drop (suc i) xs) (sym e))
 
 -- A successful reading followed by a refused allocation.
-pub reads_lacking : {A X Y R : Type 0} (f : Format A) (view : X → A) (view' : Y → A) (v : X) {o m n : Front}
+pub reads_lacking : {A X Y R : Type 0} (f : Format A) (view : X → A) (view' : Y → A) (v : X) {o m n : ReaderState}
     {dev : Ghosts R} {i j : R} →
     Reading f view o m dev i j (Ok v) →
     Reading f view' o n dev i j (Err Memory)
@@ -34,7 +34,7 @@ reads_lacking f view view' v {o = o} h = record {
 }
 
 -- One more item.
-pub each_next : {A B X Y Z R : Type 0} (f : A → Format B) (xs : List A) (at : ℕ) (x : A) (view : X → List B) (view' : Y → B) (view'' : Z → List B) {o m n : Front}
+pub each_next : {A B X Y Z R : Type 0} (f : A → Format B) (xs : List A) (at : ℕ) (x : A) (view : X → List B) (view' : Y → B) (view'' : Z → List B) {o m n : ReaderState}
     {dev : Ghosts R} {i j k : R} (v : X) (y : Y) (z : Z) →
     at < length xs → x ≡ get_or xs at x → view'' z ≡ view v ++ view' y ∷ [] →
     Reading (each f (take at xs)) view o m dev i j (Ok v) →
@@ -45,7 +45,7 @@ each_next {A = A} f xs at x view view' view'' {o = o} {n = n} {dev = dev} {i = i
     (reads_more f (take at xs) x view view' view'' v y z e first second)
 
 -- The fault of an item is the fault of all.
-pub each_stops : {A B X Y Z R : Type 0} (f : A → Format B) (xs : List A) (at : ℕ) (x : A) (view : X → List B) (view' : Y → B) (view'' : Z → List B) {o m n : Front}
+pub each_stops : {A B X Y Z R : Type 0} (f : A → Format B) (xs : List A) (at : ℕ) (x : A) (view : X → List B) (view' : Y → B) (view'' : Z → List B) {o m n : ReaderState}
     {dev : Ghosts R} {i j k : R} (v : X) (fault : ReadFault) →
     at < length xs → x ≡ get_or xs at x →
     Reading (each f (take at xs)) view o m dev i j (Ok v) →

@@ -3,7 +3,7 @@ use Rattle.std.proofs.Common.{◌≡◌, ℕ, zero, suc, ◌+◌, ◌*◌, Bool,
 use Rattle.std.specs.Prelude.{Result}
 use Rattle.std.proofs.lemmas.Bool.{cases_lt}
 use Rattle.std.proofs.lemmas.List.{length-take}
-use Rattle.szg_file.specs.declared.reading.front.Front.{Front}
+use Rattle.szg_file.specs.declared.reading.state.ReaderState.{ReaderState}
 use Rattle.szg_file.specs.declared.fault.ReadFault.{ReadFault}
 use Rattle.szg_file.specs.Format.{Format, means, field, good, verdict, ◌>>=◌}
 use Rattle.szg_file.specs.Contents.{Map, narrow, wide, Subtable, number_of, items, has_bit}
@@ -44,7 +44,7 @@ bytes_verdict count place bytes =
           ∙ sym (field-whole (1 * count) (λ b. means (map number_of (items 1 count b))) place bytes (omega (arith, whole)))
     ]
 
-pub reads_bytes : {X R : Type 0} (count : ℕ) (view : X → List ℕ) {o n : Front}
+pub reads_bytes : {X R : Type 0} (count : ℕ) (view : X → List ℕ) {o n : ReaderState}
     {dev : Ghosts R} {i j : R} (r : Result X ReadFault) →
     Reading (field count means) view o n dev i j r →
     Reading (list_following 1 count) view o n dev i j r

@@ -7,7 +7,7 @@ use Rattle.std.proofs.lemmas.List.{drop_all, length-append, take-append-drop}
 use Rattle.szg_code.specs.Acceptance.{IsCode}
 use Rattle.szg_block.specs.Layout.{Layout}
 use Rattle.szg_block.specs.Sound.{SpellsNeeded}
-use Rattle.szg_file.specs.declared.reading.front.Front.{Front}
+use Rattle.szg_file.specs.declared.reading.state.ReaderState.{ReaderState}
 use Rattle.szg_file.specs.Format.{Format, field, means, good, truncated, verdict}
 use Rattle.szg_file.specs.File.{block_field}
 use Rattle.szg_file.specs.Placed.{since}
@@ -30,7 +30,7 @@ since_then a b c x y p q =
     since_is a c (x ++ y) whole ∙ ap (λ (z : List ℕ). z ++ y) (sym (since_is a b x p)) ∙ ap (λ (z : List ℕ). since a b ++ z) (sym (since_is b c y q))
 
 -- the bytes of two readings in sequence
-pub since_on : {A B X Y R : Type 0} (f : Format A) (g : Format B) (view : X → A) (view' : Y → B) {o m n : Front}
+pub since_on : {A B X Y R : Type 0} (f : Format A) (g : Format B) (view : X → A) (view' : Y → B) {o m n : ReaderState}
     {dev : Ghosts R} {i j k : R} (v : X) (w : Y) →
     Reading f view o m dev i j (Ok v) →
     Reading g view' m n dev j k (Ok w) →
@@ -39,7 +39,7 @@ since_on f g view view' {dev = dev} {i = i} {j = j} {k = k} v w first second =
     since_then (dev.moved i) (dev.moved j) (dev.moved k) first.bytes second.bytes first.taken.bytes_moved second.taken.bytes_moved
 
 -- the offset of the reader state is the number of bytes moved
-pub valid_at : {A X R : Type 0} (f : Format A) (view : X → A) {o n : Front}
+pub valid_at : {A X R : Type 0} (f : Format A) (view : X → A) {o n : ReaderState}
     {dev : Ghosts R} {i k : R} (v : X) → o.place ≡ length (dev.moved i) →
     Reading f view o n dev i k (Ok v) → n.place ≡ length (dev.moved k)
 valid_at f view {dev = dev} {i = i} {k = k} v at h =
@@ -49,31 +49,31 @@ valid_at f view {dev = dev} {i = i} {k = k} v at h =
 
 -- ---- one block
 
-field_is : (n place : ℕ) (bytes piece filled : List ℕ) → verdict (field n means) place bytes ≡ good piece filled [] → bytes ≡ piece
-field_is n place bytes piece filled e =
+field_is : (n place : ℕ) (bytes chunk filled : List ℕ) → verdict (field n means) place bytes ≡ good chunk filled [] → bytes ≡ chunk
+field_is n place bytes chunk filled e =
     elim (cases_lt (length bytes) n) [
       | inl short ↦
-          let no : truncated (place + length bytes) ≡ good piece filled [] = sym (field-short n means place bytes short) ∙ e in
+          let no : truncated (place + length bytes) ≡ good chunk filled [] = sym (field-short n means place bytes short) ∙ e in
           absurd (cc no)
       | inr long ↦
-          let is : good (take n bytes) [] (drop n bytes) ≡ good piece filled [] = sym (field-whole n means place bytes long) ∙ e in
-          let front : take n bytes ≡ piece = cc is in
+          let is : good (take n bytes) [] (drop n bytes) ≡ good chunk filled [] = sym (field-whole n means place bytes long) ∙ e in
+          let front : take n bytes ≡ chunk = cc is in
           let none : drop n bytes ≡ [] = cc is in
           sym (take-append-drop n bytes) ∙ ap (λ (z : List ℕ). take n bytes ++ z) none ∙ append-nil (take n bytes) ∙ front
     ]
 
-moved_piece : {R : Type 0} (n : ℕ) (piece : List ℕ) {f m : Front}
+moved_chunk : {R : Type 0} (n : ℕ) (chunk : List ℕ) {f m : ReaderState}
     {dev : Ghosts R} {i k : R} →
-    Reading (field n means) (λ (_ : Unit {0}). piece) f m dev i k (Ok tt) → since (dev.moved i) (dev.moved k) ≡ piece
-moved_piece n piece {f = f} {dev = dev} {i = i} {k = k} h =
-    since_is (dev.moved i) (dev.moved k) h.bytes h.taken.bytes_moved ∙ field_is n f.place h.bytes piece h.answer.0.filled h.answer.0.whole
+    Reading (field n means) (λ (_ : Unit {0}). chunk) f m dev i k (Ok tt) → since (dev.moved i) (dev.moved k) ≡ chunk
+moved_chunk n chunk {f = f} {dev = dev} {i = i} {k = k} h =
+    since_is (dev.moved i) (dev.moved k) h.bytes h.taken.bytes_moved ∙ field_is n f.place h.bytes chunk h.answer.0.filled h.answer.0.whole
 
 -- a block that spells the values that it needs
-pub passes_block : {R : Type 0} (o : Option Layout) (size n bytes : ℕ) (piece : List ℕ) {f m : Front}
+pub passes_block : {R : Type 0} (o : Option Layout) (size n bytes : ℕ) (chunk : List ℕ) {f m : ReaderState}
     {dev : Ghosts R} {i k : R} →
-    IfSome o (λ layout. IsCode layout.code) → IfSome o (λ layout. bytes ≡ 2 ^ layout.block_bits) → IsSomeAnd o (λ layout. SpellsNeeded layout size n piece) →
-    Reading (field bytes means) (λ (_ : Unit {0}). piece) f m dev i k (Ok tt) →
+    IfSome o (λ layout. IsCode layout.code) → IfSome o (λ layout. bytes ≡ 2 ^ layout.block_bits) → IsSomeAnd o (λ layout. SpellsNeeded layout size n chunk) →
+    Reading (field bytes means) (λ (_ : Unit {0}). chunk) f m dev i k (Ok tt) →
     IfSome o (λ layout. Reading (block_field layout size n) (λ (_ : Unit {0}). since (dev.moved i) (dev.moved k)) f m dev i k (Ok tt))
-passes_block o size n bytes piece {f = f} {m = m} {dev = dev} {i = i} {k = k} code long spells taken =
-    subst (λ (z : List ℕ). IfSome o (λ layout. Reading (block_field layout size n) (λ (_ : Unit {0}). z) f m dev i k (Ok tt))) (sym (moved_piece bytes piece taken))
-    (reads_block o size n bytes piece code long spells taken)
+passes_block o size n bytes chunk {f = f} {m = m} {dev = dev} {i = i} {k = k} code long spells taken =
+    subst (λ (z : List ℕ). IfSome o (λ layout. Reading (block_field layout size n) (λ (_ : Unit {0}). z) f m dev i k (Ok tt))) (sym (moved_chunk bytes chunk taken))
+    (reads_block o size n bytes chunk code long spells taken)

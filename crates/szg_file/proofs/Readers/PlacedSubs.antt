@@ -9,7 +9,7 @@ use Rattle.szg_block.specs.BlocksTrait.{bytes_at}
 use Rattle.szg_block.specs.Subtable.{layout_of}
 use Rattle.szg_block.specs.declared.Sub.{Sub}
 use Rattle.szg_block.specs.declared.Sub.TheVariants.{Constant, Pairs}
-use Rattle.szg_file.specs.declared.reading.front.Front.{Front}
+use Rattle.szg_file.specs.declared.reading.state.ReaderState.{ReaderState}
 use Rattle.szg_file.specs.declared.fault.ReadFault.{ReadFault}
 use Rattle.szg_file.specs.declared.fault.ReadFault.TheVariants.{Refused, Device, Memory}
 use Rattle.szg_file.specs.declared.reading.dropping.PlacedSub.{PlacedSub}
@@ -29,19 +29,19 @@ use Rattle.szg_io.specs.declared.device.Input.{Ghosts}
 use Rattle.szg_io.proofs.DeviceLaws.{Takes-none}
 
 -- an allocation is refused before any byte is read
-pub lacks_first : {A X R : Type 0} (f : Format A) (view : X → A) {o : Front}
+pub lacks_first : {A X R : Type 0} (f : Format A) (view : X → A) {o : ReaderState}
     {dev : Ghosts R} {i : R} → Reading f view o o dev i i (Err Memory)
 lacks_first f view {o = o} {dev = dev} {i = i} = record { bytes = []; taken = Takes-none dev i 1; answer = (stops-nil f o.place, refl) }
 
 -- a fault is independent of the view
-stopped_as : {A X Y R : Type 0} (f : Format A) (view : X → A) (view' : Y → A) {o n : Front}
+stopped_as : {A X Y R : Type 0} (f : Format A) (view : X → A) (view' : Y → A) {o n : ReaderState}
     {dev : Ghosts R} {i k : R} (fault : ReadFault) → Reading f view o n dev i k (Err fault) → Reading f view' o n dev i k (Err fault)
 stopped_as f view view' (Refused place reason) h = record { bytes = h.bytes; taken = h.taken; answer = h.answer }
 stopped_as f view view' Device h = record { bytes = h.bytes; taken = h.taken; answer = h.answer }
 stopped_as f view view' Memory h = record { bytes = h.bytes; taken = h.taken; answer = h.answer }
 
 -- the padding before the blocks is not whole
-pub reads_unfilled : {R : Type 0} (slot : Slot) (sub : Sub) (view : PlacedSub → Subtable) (fault : ReadFault) {f h : Front}
+pub reads_unfilled : {R : Type 0} (slot : Slot) (sub : Sub) (view : PlacedSub → Subtable) (fault : ReadFault) {f h : ReaderState}
     {dev : Ghosts R} {i k : R} → (layout_of sub ≡ None → ⊥) →
     Reading (filled_to 64) (λ (_ : Unit {0}). tt) f h dev i k (Err fault) →
     Reading (blocks_of slot (subtable_of sub)) view f h dev i k (Err fault)
@@ -58,7 +58,7 @@ constant_whole bytes (Constant flags byte) first e = refl
 constant_whole bytes (Pairs flags block_bits span_bits extra blocks code dict sparse lengths packed) first e = absurd cc
 
 -- a constant one has no blocks
-pub reads_constant : {R : Type 0} (slot : Slot) (sub : Sub) (first : ℕ) {f : Front}
+pub reads_constant : {R : Type 0} (slot : Slot) (sub : Sub) (first : ℕ) {f : ReaderState}
     {dev : Ghosts R} {i : R} → layout_of sub ≡ None →
     Reading (blocks_of slot (subtable_of sub)) (whole_sub (dev.moved i)) f f dev i i (Ok (placed_at sub first))
 reads_constant slot sub first {dev = dev} {i = i} none =
@@ -82,7 +82,7 @@ last_bytes bytes first count e =
     sym (take-length (drop first bytes)) ∙ ap (λ (n : ℕ). take n (drop first bytes)) left
 
 -- the blocks after their padding
-pub reads_placed : {R : Type 0} (slot : Slot) (size : ℕ) (sub : Sub) {f m h : Front}
+pub reads_placed : {R : Type 0} (slot : Slot) (size : ℕ) (sub : Sub) {f m h : ReaderState}
     {dev : Ghosts R} {i j k : R} →
     size ≡ slot.size → (layout_of sub ≡ None → ⊥) → m.place ≡ length (dev.moved j) →
     IfSome (layout_of sub) (λ layout. length (dev.moved k) ≡ m.place + layout.blocks * 2 ^ layout.block_bits) →
@@ -104,7 +104,7 @@ reads_placed slot size (Pairs flags block_bits span_bits extra blocks code dict 
     (reads_then all (λ p. means (found p)) (λ (_ : Unit {0}). bytes) (whole_sub (dev.moved k)) tt (reads_equal _ all (λ (_ : Unit {0}). bytes) (Ok tt) same_size read)
     (reads_nothing (means (found bytes)) (whole_sub (dev.moved k)) (placed_at sub m.place) (ap (λ (p : List ℕ). means (found p)) here)))
 
-pub reads_placed_stopped : {R : Type 0} (slot : Slot) (size : ℕ) (sub : Sub) (fault : ReadFault) (view : PlacedSub → Subtable) (seen : List ℕ) {f m h : Front}
+pub reads_placed_stopped : {R : Type 0} (slot : Slot) (size : ℕ) (sub : Sub) (fault : ReadFault) (view : PlacedSub → Subtable) (seen : List ℕ) {f m h : ReaderState}
     {dev : Ghosts R} {i j k : R} →
     size ≡ slot.size → (layout_of sub ≡ None → ⊥) →
     Reading (filled_to 64) (λ (_ : Unit {0}). tt) f m dev i j (Ok tt) →
@@ -121,7 +121,7 @@ reads_placed_stopped slot size (Pairs flags block_bits span_bits extra blocks co
     (reads_stopped all (λ p. means (found p)) (λ (_ : Unit {0}). seen) view fault (reads_equal _ all (λ (_ : Unit {0}). seen) (Err fault) same_size read))
 
 -- the number of bytes that were moved
-pub ends_at : {R : Type 0} (size : ℕ) (sub : Sub) (m h : Front) (dev : Ghosts R) (j k : R) → m.place ≡ length (dev.moved j) →
+pub ends_at : {R : Type 0} (size : ℕ) (sub : Sub) (m h : ReaderState) (dev : Ghosts R) (j k : R) → m.place ≡ length (dev.moved j) →
     IfSome (layout_of sub) (λ layout. h.place ≡ m.place + layout.blocks * 2 ^ layout.block_bits) →
     IfSome (layout_of sub) (λ layout. Reading (blocks_from layout size 0 layout.blocks) (λ (_ : Unit {0}). since (dev.moved j) (dev.moved k)) m h dev j k (Ok tt)) →
     IfSome (layout_of sub) (λ layout. length (dev.moved k) ≡ m.place + layout.blocks * 2 ^ layout.block_bits)

@@ -5,7 +5,7 @@ use Rattle.std.specs.Io.KnownBytes.{Consumes}
 use Rattle.szg_io.specs.Moved.{Takes}
 use Rattle.szg_values.specs.declared.Kind.{Kind}
 use Rattle.szg_values.specs.Material.{Sides}
-use Rattle.szg_file.specs.declared.reading.front.Front.{Front}
+use Rattle.szg_file.specs.declared.reading.state.ReaderState.{ReaderState}
 use Rattle.szg_file.specs.declared.fault.Reason.{Reason}
 use Rattle.szg_file.specs.declared.fault.ReadFault.{ReadFault}
 use Rattle.szg_file.specs.declared.fault.ReadFault.TheVariants.{Refused, Device, Memory}
@@ -70,7 +70,7 @@ pub record IsWhole (material : Sides) (kind : Kind) (bytes : List ℕ) (t : Cont
   pub accepted : IsAccepted t fill
   pub file_is : bytes ≡ file_of t fill
 
-pub whole_file : (material : Sides) (kind : Kind) (t : Contents) (o n : Front) (bytes : List ℕ) → o.place ≡ 0 → o.fill.items ≡ [] →
+pub whole_file : (material : Sides) (kind : Kind) (t : Contents) (o n : ReaderState) (bytes : List ℕ) → o.place ≡ 0 → o.fill.items ≡ [] →
     Advances (file material kind) t o n bytes → IsWhole material kind bytes t n.fill.items
 whole_file material kind t o n bytes place fill h =
     let filled : n.fill.items ≡ h.filled = h.fill ∙ ap (λ (z : List ℕ). z ++ h.filled) fill in
@@ -96,7 +96,7 @@ at_first : {A : Type 0} (f : Format A) (from : ℕ) (bytes : List ℕ) (place : 
     IsRefusal (verdict f from bytes) place reason coming → IsRefusal (verdict f 0 bytes) place reason coming
 at_first f from bytes place reason coming e h = subst (λ (p : ℕ). IsRefusal (verdict f p bytes) place reason coming) e h
 
-pub fault_follows : {X R : Type 0} (f : Format Contents) (view : X → Contents) (fault : ReadFault) {o n : Front}
+pub fault_follows : {X R : Type 0} (f : Format Contents) (view : X → Contents) (fault : ReadFault) {o n : ReaderState}
     {dev : Ghosts R} {i k : R} → o.place ≡ 0 →
     Reading f view o n dev i k (Err fault) → (IsErrOf {T = X} (Err fault) Memory → Lacking f o dev i k) →
     IfSome (dev.coming i) (λ all. FollowsVerdict (verdict f 0 all) (Err fault) (dev.coming k))
@@ -107,7 +107,7 @@ fault_follows f view Memory {o = o} {dev = dev} {i = i} {k = k} first h lacks =
     let l = lacks refl in
     follows_memory f (dev.coming i) (dev.coming k) l.bytes l.taken.bytes_gone (subst (λ (p : ℕ). IsCut (verdict f p l.bytes)) first l.short)
 
-pub fault_took : {X R : Type 0} (material : Sides) (kind : Kind) (view : X → Contents) (fault : ReadFault) {o n : Front}
+pub fault_took : {X R : Type 0} (material : Sides) (kind : Kind) (view : X → Contents) (fault : ReadFault) {o n : ReaderState}
     {dev : Ghosts R} {i k : R} → o.place ≡ 0 →
     Reading (file material kind) view o n dev i k (Err fault) → (IsErrOf {T = X} (Err fault) Memory → Lacking (file material kind) o dev i k) →
     (bytes : List ℕ) × Takes dev i k bytes 1 × TookBytes material kind bytes (dev.coming k) (Err fault)

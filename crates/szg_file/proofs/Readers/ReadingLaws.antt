@@ -3,7 +3,7 @@ use Rattle.std.proofs.Common.{◌≡◌, ℕ, ◌+◌, ◌-◌, List, [], ◌∷
 use Rattle.std.specs.Prelude.{Result, Bool}
 use Rattle.std.proofs.lemmas.List.{length-append}
 use Rattle.szg_io.proofs.DeviceLaws.{Takes-on, Takes-none}
-use Rattle.szg_file.specs.declared.reading.front.Front.{Front}
+use Rattle.szg_file.specs.declared.reading.state.ReaderState.{ReaderState}
 use Rattle.szg_file.specs.declared.fault.Reason.{Reason}
 use Rattle.szg_file.specs.declared.fault.ReadFault.{ReadFault}
 use Rattle.szg_file.specs.declared.fault.ReadFault.TheVariants.{Refused, Device, Memory}
@@ -39,7 +39,7 @@ IsRefusal-after_fill filled (refused at why rest) place reason coming h = h
 IsRefusal-after_fill filled (truncated at) place reason coming h = h
 
 -- the result of the second reader, stated from before the first
-Answer-then : {A B Y : Type 0} (f : Format A) (g : A → Format B) (view' : Y → B) (o m n : Front) (coming : Option (List ℕ)) (fs fs' row : ℕ) (may : Bool) (x y : List ℕ) (a : A) (r : Result Y ReadFault) →
+Answer-then : {A B Y : Type 0} (f : Format A) (g : A → Format B) (view' : Y → B) (o m n : ReaderState) (coming : Option (List ℕ)) (fs fs' row : ℕ) (may : Bool) (x y : List ℕ) (a : A) (r : Result Y ReadFault) →
     Advances f a o m x → Answer (g a) view' m n coming fs fs' row may y r → Answer (f >>= g) view' o n coming fs fs' row may (x ++ y) r
 Answer-then f g view' o m n coming fs fs' row may x y a (Ok v) first h =
     let place : o.place + length x ≡ m.place = sym first.place in
@@ -74,7 +74,7 @@ Answer-then f g view' o m n coming fs fs' row may x y a (Err Memory) first h =
     (subst (λ (v : Verdict _). StopsWithin v) (sym joint) (stops-after_fill first.filled (verdict (g a) m.place y) h.0), h.1)
 
 -- A successful reader followed by another.
-pub reads_then : {A B X Y R : Type 0} (f : Format A) (g : A → Format B) (view : X → A) (view' : Y → B) {o m n : Front}
+pub reads_then : {A B X Y R : Type 0} (f : Format A) (g : A → Format B) (view : X → A) (view' : Y → B) {o m n : ReaderState}
     {dev : Ghosts R} {i j k : R} (v : X) {r : Result Y ReadFault} →
     Reading f view o m dev i j (Ok v) →
     Reading (g (view v)) view' m n dev j k r →
@@ -90,7 +90,7 @@ reads_then f g view view' {o = o} {m = m} {n = n} {dev = dev} {i = i} {j = j} {k
     }
 
 -- A reader that returns a fault ends the sequence.
-pub reads_stopped : {A B X Y R : Type 0} (f : Format A) (g : A → Format B) (view : X → A) (view' : Y → B) {o n : Front}
+pub reads_stopped : {A B X Y R : Type 0} (f : Format A) (g : A → Format B) (view : X → A) (view' : Y → B) {o n : ReaderState}
     {dev : Ghosts R} {i k : R} (fault : ReadFault) →
     Reading f view o n dev i k (Err fault) →
     Reading (f >>= g) view' o n dev i k (Err fault)
@@ -107,7 +107,7 @@ reads_stopped f g view view' Device h = record { bytes = h.bytes; taken = h.take
 reads_stopped f g view view' {o = o} Memory h = record { bytes = h.bytes; taken = h.taken; answer = (stops-then f g o.place h.bytes h.answer.0, h.answer.1) }
 
 -- A value without bytes is read by no call.
-pub reads_nothing : {A X R : Type 0} (f : Format A) (view : X → A) (x : X) {o : Front}
+pub reads_nothing : {A X R : Type 0} (f : Format A) (view : X → A) (x : X) {o : ReaderState}
     {dev : Ghosts R} {i : R} → f ≡ means (view x) →
     Reading f view o o dev i i (Ok x)
 reads_nothing f view x {o = o} {dev = dev} {i = i} e = record {
@@ -117,7 +117,7 @@ reads_nothing f view x {o = o} {dev = dev} {i = i} e = record {
 }
 
 -- A failing check is reported without a call.
-pub reads_refused : {A X R : Type 0} (f : Format A) (view : X → A) (place : ℕ) (reason : Reason) {o : Front}
+pub reads_refused : {A X R : Type 0} (f : Format A) (view : X → A) (place : ℕ) (reason : Reason) {o : ReaderState}
     {dev : Ghosts R} {i : R} → f ≡ refuses place reason →
     Reading f view o o dev i i (Err (Refused place reason))
 reads_refused f view place reason {o = o} {dev = dev} {i = i} e = record {
@@ -129,7 +129,7 @@ reads_refused f view place reason {o = o} {dev = dev} {i = i} e = record {
 -- ---- loops over items
 
 -- One more item: the items that a loop has read so far, and the next one.
-pub reads_more : {A B X Y Z R : Type 0} (f : A → Format B) (xs : List A) (x : A) (view : X → List B) (view' : Y → B) (view'' : Z → List B) {o m n : Front}
+pub reads_more : {A B X Y Z R : Type 0} (f : A → Format B) (xs : List A) (x : A) (view : X → List B) (view' : Y → B) (view'' : Z → List B) {o m n : ReaderState}
     {dev : Ghosts R} {i j k : R} (v : X) (y : Y) (z : Z) → view'' z ≡ view v ++ view' y ∷ [] →
     Reading (each f xs) view o m dev i j (Ok v) →
     Reading (f x) view' m n dev j k (Ok y) →
@@ -141,7 +141,7 @@ reads_more f xs x view view' view'' {o = o} {n = n} {dev = dev} {i = i} {k = k} 
     (reads_nothing (means (view v ++ view' y ∷ [])) view'' z (ap means (sym e)))))
 
 -- An item that returns a fault ends the loop, whatever items remain.
-pub reads_more_stopped : {A B X Y Z R : Type 0} (f : A → Format B) (xs : List A) (x : A) (ys : List A) (view : X → List B) (view' : Y → B) (view'' : Z → List B) {o m n : Front}
+pub reads_more_stopped : {A B X Y Z R : Type 0} (f : A → Format B) (xs : List A) (x : A) (ys : List A) (view : X → List B) (view' : Y → B) (view'' : Z → List B) {o m n : ReaderState}
     {dev : Ghosts R} {i j k : R} (v : X) (fault : ReadFault) →
     Reading (each f xs) view o m dev i j (Ok v) →
     Reading (f x) view' m n dev j k (Err fault) →

@@ -2,7 +2,7 @@
 use Rattle.std.proofs.Common.{◌≡◌, ℕ, zero, suc, ◌+◌, ◌*◌, ◌≤◌, List, [], ◌∷◌, ◌++◌, length, map, take, drop, refl, sym, ap, ◌∙◌, arith, Ok, Err}
 use Rattle.std.proofs.lemmas.List.{length-append, length-drop, map-append, drop-append-le, take-append-le}
 use Rattle.szg_io.specs.declared.device.Input.{Ghosts}
-use Rattle.szg_file.specs.declared.reading.front.Front.{Front}
+use Rattle.szg_file.specs.declared.reading.state.ReaderState.{ReaderState}
 use Rattle.szg_file.specs.declared.fault.ReadFault.{ReadFault}
 use Rattle.szg_file.specs.Contents.{items}
 use Rattle.szg_file.specs.File.{rows_field}
@@ -26,13 +26,13 @@ items-append size (suc a) b xs ys e =
     ∙ ap (λ (z : List (List ℕ)). take size xs ∷ z) (items-append size a b (drop size xs) ys left)
 
 -- `n` rows were read, and decoded into a list
-pub record RowsRead {X R : Type 0} (f : List ℕ → X) (size n : ℕ) (list : List X) (o m : Front) (dev : Ghosts R) (i j : R) : Type 0 where
+pub record RowsRead {X R : Type 0} (f : List ℕ → X) (size n : ℕ) (list : List X) (o m : ReaderState) (dev : Ghosts R) (i j : R) : Type 0 where
   pub bytes : List ℕ
   pub read : Reading (field (size * n) means) (λ (_ : Unit {0}). bytes) o m dev i j (Ok tt)
   pub long : length bytes ≡ size * n
   pub same : list ≡ map f (items size n bytes)
 
-pub rows_none : {X R : Type 0} (f : List ℕ → X) (size n : ℕ) (list : List X) {o : Front} {dev : Ghosts R} {i : R} → n ≡ 0 → list ≡ [] → RowsRead f size n list o o dev i i
+pub rows_none : {X R : Type 0} (f : List ℕ → X) (size n : ℕ) (list : List X) {o : ReaderState} {dev : Ghosts R} {i : R} → n ≡ 0 → list ≡ [] → RowsRead f size n list o o dev i i
 rows_none f size n list none empty =
     let zero_bytes : size * 0 ≡ 0 = omega arith in
     let no_bytes : size * n ≡ 0 = ap (λ (k : ℕ). size * k) none ∙ zero_bytes in
@@ -43,16 +43,16 @@ rows_none f size n list none empty =
       same = empty ∙ ap (λ (k : ℕ). map f (items size k [])) (sym none);
     }
 
--- one piece more
-pub rows_on : {X Y R : Type 0} (f : List ℕ → X) (size n k m : ℕ) (list list' : List X) (view : Y → List ℕ) (v : Y) {o p q r : Front} {dev : Ghosts R} {i j l : R} →
+-- one chunk more
+pub rows_on : {X Y R : Type 0} (f : List ℕ → X) (size n k m : ℕ) (list list' : List X) (view : Y → List ℕ) (v : Y) {o p q r : ReaderState} {dev : Ghosts R} {i j l : R} →
     m ≡ n + k → size * n + size * k ≡ size * m → RowsRead f size n list o p dev i j → Reading (field (size * k) means) view p q dev j l (Ok v) →
     length (view v) ≡ size * k → list' ≡ list ++ map f (items size k (view v)) → r.place ≡ q.place → r.fill.items ≡ q.fill.items → RowsRead f size m list' o r dev i l
-rows_on {X = X} f size n k m list list' view v count sum h piece long grown place fill =
+rows_on {X = X} f size n k m list list' view v count sum h chunk long grown place fill =
     let bytes : List ℕ = h.bytes ++ view v in
     record {
       bytes = bytes;
       read = reads_as (field (size * n + size * k) means) (field (size * m) means) (λ (_ : Unit {0}). bytes) (λ (_ : Unit {0}). bytes) tt tt (ap (λ (c : ℕ). field c means) sum) refl place fill
-          (field_more (size * n) (size * k) (λ (_ : Unit {0}). h.bytes) view (λ (_ : Unit {0}). bytes) tt v tt refl h.read piece);
+          (field_more (size * n) (size * k) (λ (_ : Unit {0}). h.bytes) view (λ (_ : Unit {0}). bytes) tt v tt refl h.read chunk);
       long = length-append h.bytes (view v) ∙ omega (arith, h.long, long, sum);
       same = grown ∙ ap (λ (z : List X). z ++ map f (items size k (view v))) h.same
           ∙ sym (map-append f (items size n h.bytes) (items size k (view v)))
@@ -61,17 +61,17 @@ rows_on {X = X} f size n k m list list' view v count sum h piece long grown plac
     }
 
 -- all rows
-pub rows_done : {X Y R : Type 0} (f : List ℕ → X) (size n : ℕ) (list : List X) (view : Y → List X) (y : Y) {o m : Front} {dev : Ghosts R} {i j : R} →
+pub rows_done : {X Y R : Type 0} (f : List ℕ → X) (size n : ℕ) (list : List X) (view : Y → List X) (y : Y) {o m : ReaderState} {dev : Ghosts R} {i j : R} →
     view y ≡ list → RowsRead f size n list o m dev i j → Reading (rows_field size n >>= λ rows. means (map f rows)) view o m dev i j (Ok y)
 rows_done f size n list view y e h =
     reads_then (field (size * n) means) (λ b. means (map f (items size n b))) (λ (_ : Unit {0}). h.bytes) view tt h.read
     (reads_nothing (means (map f (items size n h.bytes))) view y (ap means (sym (e ∙ h.same))))
 
--- a fault within a piece
-pub rows_stopped : {X Y Z R : Type 0} (f : List ℕ → X) (size n k rest count : ℕ) (list : List X) (view : Y → List ℕ) (view' : Z → List X) (fault : ReadFault) {o m p : Front}
+-- a fault within a chunk
+pub rows_stopped : {X Y Z R : Type 0} (f : List ℕ → X) (size n k rest count : ℕ) (list : List X) (view : Y → List ℕ) (view' : Z → List X) (fault : ReadFault) {o m p : ReaderState}
     {dev : Ghosts R} {i j l : R} → size * n + (size * k + rest) ≡ size * count → RowsRead f size n list o m dev i j → Reading (field (size * k) means) view m p dev j l (Err fault) →
     Reading (rows_field size count >>= λ rows. means (map f rows)) view' o p dev i l (Err fault)
-rows_stopped f size n k rest count list view view' fault sum h piece =
+rows_stopped f size n k rest count list view view' fault sum h chunk =
     reads_stopped (field (size * count) means) (λ b. means (map f (items size count b))) view view' fault
     (reads_equal (field (size * n + (size * k + rest)) means) (field (size * count) means) view (Err fault) (ap (λ (c : ℕ). field c means) sum)
-    (field_stopped (size * n) (size * k) rest (λ (_ : Unit {0}). h.bytes) view view tt fault h.read piece))
+    (field_stopped (size * n) (size * k) rest (λ (_ : Unit {0}). h.bytes) view view tt fault h.read chunk))

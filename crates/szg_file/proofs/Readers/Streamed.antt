@@ -18,7 +18,7 @@ use Rattle.szg_file.specs.Format.{Format}
 use Rattle.szg_file.specs.Held.{subtable_of}
 use Rattle.szg_file.specs.Placed.{since}
 use Rattle.szg_file.specs.Reading.{Reading}
-use Rattle.szg_file.specs.declared.reading.front.Front.{Front}
+use Rattle.szg_file.specs.declared.reading.state.ReaderState.{ReaderState}
 use Rattle.szg_file.proofs.Readers.PassedBlocks.{since_is}
 use Rattle.szg_file.specs.Lookup.{byte_of}
 use Rattle.szg_file.specs.Contents.{Slot, Subtable}
@@ -131,7 +131,7 @@ first_more layout packed block size n long whole =
     ∙ ap (λ (z : List ℕ). first_values layout packed size n ++ take (needed layout.lengths size n) (block_values layout z)) (next_block layout.block_bits n packed block long whole)
 
 -- so many bytes were moved with the blocks
-pub blocks_long : {A X R : Type 0} (f : Format A) (view : X → A) {x : X} {o n : Front} {dev : Ghosts R} {i k : R} {bytes : ℕ} → Reading f view o n dev i k (Ok x) → n.place ≡ o.place + bytes →
+pub blocks_long : {A X R : Type 0} (f : Format A) (view : X → A) {x : X} {o n : ReaderState} {dev : Ghosts R} {i k : R} {bytes : ℕ} → Reading f view o n dev i k (Ok x) → n.place ≡ o.place + bytes →
     length (since (dev.moved i) (dev.moved k)) ≡ bytes
 blocks_long f view {dev = dev} {i = i} {k = k} h e =
     let moved : since (dev.moved i) (dev.moved k) ≡ h.bytes = since_is (dev.moved i) (dev.moved k) h.bytes h.taken.bytes_moved in

@@ -6,7 +6,7 @@ use Rattle.szg_file.specs.Contents.{Slot, Subtable, constant, pairs}
 use Rattle.szg_file.specs.File.{Begun, begun, each, sparse_field, lengths_field}
 use Rattle.szg_file.specs.Reading.{Reading}
 use Rattle.szg_file.specs.Values.{slotted}
-use Rattle.szg_file.specs.declared.reading.front.Front.{Front}
+use Rattle.szg_file.specs.declared.reading.state.ReaderState.{ReaderState}
 use Rattle.szg_file.proofs.Grammar.FileLaws.{sound_each}
 use Rattle.szg_file.proofs.Grammar.WholeLaws.{sound_sparse, sound_lengths, IsIndexed, IsMeasured}
 
@@ -28,7 +28,7 @@ measured_slot slot (constant flags byte) c h = h.0
 measured_slot slot (pairs head sparse lengths packed) c h = h.0
 
 -- reading the sparse indexes changes no slot
-pub indexed_slots : {X R : Type 0} (list : List Begun) (view : X → List Begun) (x : X) {o n : Front} {dev : Ghosts R} {i k : R} →
+pub indexed_slots : {X R : Type 0} (list : List Begun) (view : X → List Begun) (x : X) {o n : ReaderState} {dev : Ghosts R} {i k : R} →
     Reading (each sparse_field list) view o n dev i k (Ok x) → map slot_of (view x) ≡ map slot_of list
 indexed_slots list view x {o = o} h =
     let a = h.answer.0 in
@@ -36,7 +36,7 @@ indexed_slots list view x {o = o} h =
     ((sound_each sparse_field _ (λ b c. IsIndexed b.slot b.subtable c) (λ b. sound_sparse b.slot b.subtable) list).sound o.place h.bytes (view x) a.filled a.fits a.whole).2
 
 -- reading the block lengths changes no slot
-pub measured_slots : {X R : Type 0} (list : List Begun) (view : X → List Begun) (x : X) {o n : Front} {dev : Ghosts R} {i k : R} →
+pub measured_slots : {X R : Type 0} (list : List Begun) (view : X → List Begun) (x : X) {o n : ReaderState} {dev : Ghosts R} {i k : R} →
     Reading (each lengths_field list) view o n dev i k (Ok x) → map slot_of (view x) ≡ map slot_of list
 measured_slots list view x {o = o} h =
     let a = h.answer.0 in

@@ -3,7 +3,7 @@ use Rattle.std.proofs.Common.{◌≡◌, ℕ, ◌+◌, ◌<◌, List, [], ◌∷
 use Rattle.std.specs.List.{sum_by}
 use Rattle.std.proofs.lemmas.List.{length_push, map-id}
 use Rattle.std.proofs.lemmas.List.Sums.{sum_by_push}
-use Rattle.szg_file.specs.declared.reading.front.Front.{Front}
+use Rattle.szg_file.specs.declared.reading.state.ReaderState.{ReaderState}
 use Rattle.szg_file.specs.Format.{Format, means}
 use Rattle.szg_file.specs.File.{each}
 use Rattle.szg_file.specs.Grown.{HasCounted}
@@ -15,12 +15,12 @@ use Rattle.szg_file.proofs.Readers.ReadingLaws.{reads_nothing}
 use Rattle.szg_file.proofs.Readers.Taken.{reads_as, reads_equal}
 
 -- the items passed on so far, with what was read into them, are in the resulting list
-pub record Loading {T U X R : Type 0} (field : T → Format U) (items yielded : List T) (before : T → ℕ) (after : U → ℕ) (list_of : X → List U) (made : X) (o n : Front)
+pub record Loading {T U X R : Type 0} (field : T → Format U) (items yielded : List T) (before : T → ℕ) (after : U → ℕ) (list_of : X → List U) (made : X) (o n : ReaderState)
     (dev : Ghosts R) (i j : R) : Type 0 where
   pub read : Reading (each field (take (length yielded) items)) list_of o n dev i j (Ok made)
   pub grown : HasCounted o n (sum_by before yielded) (length (list_of made) + sum_by after (list_of made))
 
-pub loading_none : {T U X R : Type 0} (field : T → Format U) (items : List T) (before : T → ℕ) (after : U → ℕ) (list_of : X → List U) (made : X) {o : Front} {dev : Ghosts R} {i : R} →
+pub loading_none : {T U X R : Type 0} (field : T → Format U) (items : List T) (before : T → ℕ) (after : U → ℕ) (list_of : X → List U) (made : X) {o : ReaderState} {dev : Ghosts R} {i : R} →
     list_of made ≡ [] → Loading field items [] before after list_of made o o dev i i
 loading_none {U = U} field items before after list_of made empty = record {
   read = reads_nothing (means []) list_of made (ap (λ (l : List U). means l) (sym empty));
@@ -28,7 +28,7 @@ loading_none {U = U} field items before after list_of made empty = record {
 }
 
 -- The result of one more item, and the list with it.
-pub record Loaded {T U X R : Type 0} (field : T → Format U) (item : T) (loaded : U) (before : T → ℕ) (after : U → ℕ) (list_of : X → List U) (made made' : X) (m p n : Front)
+pub record Loaded {T U X R : Type 0} (field : T → Format U) (item : T) (loaded : U) (before : T → ℕ) (after : U → ℕ) (list_of : X → List U) (made made' : X) (m p n : ReaderState)
     (dev : Ghosts R) (j k : R) : Type 0 where
   pub read : Reading (field item) (λ (u : U). u) m p dev j k (Ok loaded)
   pub grown : HasCounted m p (before item) (after loaded)
@@ -37,7 +37,7 @@ pub record Loaded {T U X R : Type 0} (field : T → Format U) (item : T) (loaded
   pub same_fill : n.fill.items ≡ p.fill.items
   pub one_counted : n.growth ≡ p.growth + 1
 
-pub loading_next : {T U X R : Type 0} (field : T → Format U) (items yielded : List T) (item : T) (loaded : U) (before : T → ℕ) (after : U → ℕ) (list_of : X → List U) (made made' : X) {o m p n : Front}
+pub loading_next : {T U X R : Type 0} (field : T → Format U) (items yielded : List T) (item : T) (loaded : U) (before : T → ℕ) (after : U → ℕ) (list_of : X → List U) (made made' : X) {o m p n : ReaderState}
     {dev : Ghosts R} {i j k : R} →
     length yielded < length items → item ≡ get_or items (length yielded) item →
     Loading field items yielded before after list_of made o m dev i j →
@@ -61,7 +61,7 @@ loading_next {U = U} field items yielded item loaded before after list_of made m
     }
 
 -- when all items were passed on, each was extended
-pub loading_all : {T U X R : Type 0} (field : T → Format U) (items yielded : List T) (before : T → ℕ) (after : U → ℕ) (list_of : X → List U) (made : X) {o n : Front}
+pub loading_all : {T U X R : Type 0} (field : T → Format U) (items yielded : List T) (before : T → ℕ) (after : U → ℕ) (list_of : X → List U) (made : X) {o n : ReaderState}
     {dev : Ghosts R} {i j : R} →
     (map (λ item. item) yielded ≡ items) × (length yielded ≡ length items) →
     Loading field items yielded before after list_of made o n dev i j →

@@ -5,7 +5,7 @@ use Rattle.std.proofs.Math.Seq.{take-length, take-add, take-append_seam, drop-ap
 use Rattle.std.proofs.lemmas.Bool.{cases_lt}
 use Rattle.std.proofs.lemmas.List.{drop_all, drop_at, take_at, length-append, length-drop, length-take-le, drop-drop, take-append-drop}
 use Rattle.szg_io.specs.Moved.{Takes}
-use Rattle.szg_file.specs.declared.reading.front.Front.{Front}
+use Rattle.szg_file.specs.declared.reading.state.ReaderState.{ReaderState}
 use Rattle.szg_file.specs.declared.fault.ReadFault.{ReadFault}
 use Rattle.szg_file.specs.Format.{Format, field, means, Verdict, good, truncated, verdict, ◌>>=◌}
 use Rattle.szg_file.specs.Accepted.{AreNumbers}
@@ -24,15 +24,15 @@ field_of_text place bytes =
     ∙ ap (λ (z : List ℕ). good z [] (drop (length bytes) bytes)) taken
     ∙ ap (λ (z : List ℕ). good bytes [] z) left
 
-pub field_taken : {R : Type 0} (o n : Front) (piece : List ℕ)
+pub field_taken : {R : Type 0} (o n : ReaderState) (chunk : List ℕ)
     {dev : Ghosts R} {i k : R} →
-    AreNumbers 1 piece → Takes dev i k piece 0 →
-    n.place ≡ o.place + length piece → n.fill.items ≡ o.fill.items → dev.failures k ≡ dev.failures i →
-    Reading (field (length piece) means) (λ (_ : Unit {0}). piece) o n dev i k (Ok tt)
-field_taken o n piece small taken place fill quiet = record {
-  bytes = piece;
+    AreNumbers 1 chunk → Takes dev i k chunk 0 →
+    n.place ≡ o.place + length chunk → n.fill.items ≡ o.fill.items → dev.failures k ≡ dev.failures i →
+    Reading (field (length chunk) means) (λ (_ : Unit {0}). chunk) o n dev i k (Ok tt)
+field_taken o n chunk small taken place fill quiet = record {
+  bytes = chunk;
   taken = taken;
-  answer = (record { fits = small; filled = []; whole = field_of_text o.place piece; place = place; fill = fill ∙ sym (append-nil o.fill.items) }, quiet);
+  answer = (record { fits = small; filled = []; whole = field_of_text o.place chunk; place = place; fill = fill ∙ sym (append-nil o.fill.items) }, quiet);
 }
 
 -- ---- one field and its parts
@@ -65,7 +65,7 @@ two_fields-one a b place bytes =
     ]
 
 -- formats with the same verdicts have the same readings
-pub reads_like : {A X R : Type 0} (f g : Format A) (view : X → A) {o n : Front}
+pub reads_like : {A X R : Type 0} (f g : Format A) (view : X → A) {o n : ReaderState}
     {dev : Ghosts R} {i k : R} (r : Result X ReadFault) →
     ((bytes : List ℕ) → verdict f o.place bytes ≡ verdict g o.place bytes) →
     Reading f view o n dev i k r → Reading g view o n dev i k r
@@ -87,7 +87,7 @@ reads_like f g view (Err Memory) same h = record {
 }
 
 -- more bytes of one field
-pub field_more : {X Y Z R : Type 0} (a b : ℕ) (view : X → List ℕ) (view' : Y → List ℕ) (view'' : Z → List ℕ) {o m n : Front}
+pub field_more : {X Y Z R : Type 0} (a b : ℕ) (view : X → List ℕ) (view' : Y → List ℕ) (view'' : Z → List ℕ) {o m n : ReaderState}
     {dev : Ghosts R} {i j k : R} (v : X) (w : Y) (z : Z) →
     view'' z ≡ view v ++ view' w →
     Reading (field a means) view o m dev i j (Ok v) →
@@ -100,7 +100,7 @@ field_more a b view view' view'' {o = o} v w z e first second =
     (reads_nothing (means (view v ++ view' w)) view'' z (ap means (sym e)))))
 
 -- a fault within one field
-pub field_stopped : {X Y Z R : Type 0} (a b rest : ℕ) (view : X → List ℕ) (view' : Y → List ℕ) (view'' : Z → List ℕ) {o m n : Front}
+pub field_stopped : {X Y Z R : Type 0} (a b rest : ℕ) (view : X → List ℕ) (view' : Y → List ℕ) (view'' : Z → List ℕ) {o m n : ReaderState}
     {dev : Ghosts R} {i j k : R} (v : X) (fault : ReadFault) →
     Reading (field a means) view o m dev i j (Ok v) →
     Reading (field b means) view' m n dev j k (Err fault) →
@@ -113,7 +113,7 @@ field_stopped a b rest view view' view'' {o = o} {m = m} v fault first second =
     (reads_stopped (field b means) (λ x. field rest means >>= λ y. means (x ++ y)) view' view'' fault second))))
 
 -- the same reading with an equal state and another view of its result
-pub reads_as : {A X Y R : Type 0} (f g : Format A) (view : X → A) (view' : Y → A) {o n n' : Front}
+pub reads_as : {A X Y R : Type 0} (f g : Format A) (view : X → A) (view' : Y → A) {o n n' : ReaderState}
     {dev : Ghosts R} {i k : R} (v : X) (w : Y) →
     f ≡ g → view' w ≡ view v → n'.place ≡ n.place → n'.fill.items ≡ n.fill.items →
     Reading f view o n dev i k (Ok v) → Reading g view' o n' dev i k (Ok w)
@@ -134,19 +134,19 @@ reads_as f g view view' {o = o} v w same seen place fill h = record {
 }
 
 -- a list whose tail from an index on was overwritten
-pub tail_written : (before piece after : List ℕ) (at size : ℕ) → length before ≡ at + size → length piece ≡ size →
-    drop at (take (at + size) ((take at before ++ (piece ++ drop (length before - at) (drop at before))) ++ after)) ≡ piece
-tail_written before piece after at size long sized =
+pub tail_written : (before chunk after : List ℕ) (at size : ℕ) → length before ≡ at + size → length chunk ≡ size →
+    drop at (take (at + size) ((take at before ++ (chunk ++ drop (length before - at) (drop at before))) ++ after)) ≡ chunk
+tail_written before chunk after at size long sized =
     let none : drop (length before - at) (drop at before) ≡ [] = drop_all (length before - at) (drop at before) (omega (arith, length-drop at before)) in
     let front : length (take at before) ≡ at = length-take-le at before (omega (arith, long)) in
-    let whole : length (take at before ++ piece) ≡ at + size = omega (arith, length-append (take at before) piece, front, sized) in
-    ap (λ (z : List ℕ). drop at (take (at + size) ((take at before ++ (piece ++ z)) ++ after))) none
-    ∙ ap (λ (z : List ℕ). drop at (take (at + size) ((take at before ++ z) ++ after))) (append-nil piece)
-    ∙ ap (drop at) (take_at (take at before ++ piece) after (at + size) whole)
-    ∙ drop_at (take at before) piece at front
+    let whole : length (take at before ++ chunk) ≡ at + size = omega (arith, length-append (take at before) chunk, front, sized) in
+    ap (λ (z : List ℕ). drop at (take (at + size) ((take at before ++ (chunk ++ z)) ++ after))) none
+    ∙ ap (λ (z : List ℕ). drop at (take (at + size) ((take at before ++ z) ++ after))) (append-nil chunk)
+    ∙ ap (drop at) (take_at (take at before ++ chunk) after (at + size) whole)
+    ∙ drop_at (take at before) chunk at front
 
 -- a field of no bytes
-pub reads_no_bytes : {X R : Type 0} (size : ℕ) (view : X → List ℕ) (x : X) {o : Front}
+pub reads_no_bytes : {X R : Type 0} (size : ℕ) (view : X → List ℕ) (x : X) {o : ReaderState}
     {dev : Ghosts R} {i : R} → size ≡ 0 → view x ≡ [] →
     Reading (field size means) view o o dev i i (Ok x)
 reads_no_bytes size view x {o = o} none empty =
@@ -171,14 +171,14 @@ grown_twice first second third p q =
     )
 
 -- two equal formats
-pub reads_equal : {A X R : Type 0} (f g : Format A) (view : X → A) {o n : Front}
+pub reads_equal : {A X R : Type 0} (f g : Format A) (view : X → A) {o n : ReaderState}
     {dev : Ghosts R} {i k : R} (r : Result X ReadFault) → f ≡ g →
     Reading f view o n dev i k r → Reading g view o n dev i k r
 reads_equal f g view {o = o} {n = n} {dev = dev} {i = i} {k = k} r e h =
     subst (λ (t : Format _). Reading t view o n dev i k r) e h
 
 -- the same reading from an equal state
-pub reads_from : {A X R : Type 0} (f : Format A) (view : X → A) {o o' n : Front}
+pub reads_from : {A X R : Type 0} (f : Format A) (view : X → A) {o o' n : ReaderState}
     {dev : Ghosts R} {i k : R} (r : Result X ReadFault) →
     o'.place ≡ o.place → o'.fill.items ≡ o.fill.items →
     Reading f view o n dev i k r → Reading f view o' n dev i k r

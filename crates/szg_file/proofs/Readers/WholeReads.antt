@@ -2,7 +2,7 @@
 use Rattle.std.proofs.Common.{◌≡◌, ℕ, List, sym, ap, subst, ◌∙◌, Option, Ok, Err}
 use Rattle.szg_values.specs.declared.Kind.{Kind}
 use Rattle.szg_values.specs.Material.{Sides}
-use Rattle.szg_file.specs.declared.reading.front.Front.{Front}
+use Rattle.szg_file.specs.declared.reading.state.ReaderState.{ReaderState}
 use Rattle.szg_file.specs.declared.fault.ReadFault.{ReadFault}
 use Rattle.szg_file.specs.Format.{Format, means, field, ◌>>=◌}
 use Rattle.szg_file.specs.Contents.{Part, Subtable, Map, Contents, slots, part_numbers}
@@ -15,7 +15,7 @@ use Rattle.szg_io.specs.declared.device.Input.{Ghosts}
 use Rattle.szg_file.proofs.Readers.ReadingLaws.{reads_then, reads_stopped, reads_nothing}
 
 -- A fault is independent of the value that was being read, and the same for equal formats.
-pub reads_stopped_as : {A X Y R : Type 0} (f : Format A) (g : Format A) (view : X → A) (view' : Y → A) {o n : Front}
+pub reads_stopped_as : {A X Y R : Type 0} (f : Format A) (g : Format A) (view : X → A) (view' : Y → A) {o n : ReaderState}
     {dev : Ghosts R} {i k : R} (fault : ReadFault) → f ≡ g →
     Reading f view o n dev i k (Err fault) →
     Reading g view' o n dev i k (Err fault)
@@ -24,7 +24,7 @@ reads_stopped_as f g view view' {o = o} {n = n} {dev = dev} {i = i} {k = k} faul
     (reads_stopped f means view view' fault h)
 
 -- The last of several readings, whose value determines the value of all.
-pub reads_made : {A B X Y R : Type 0} (f : Format A) (made : A → B) (view : X → A) (view' : Y → B) {o n : Front}
+pub reads_made : {A B X Y R : Type 0} (f : Format A) (made : A → B) (view : X → A) (view' : Y → B) {o n : ReaderState}
     {dev : Ghosts R} {i k : R} (v : X) (w : Y) → view' w ≡ made (view v) →
     Reading f view o n dev i k (Ok v) →
     Reading (f >>= λ a. means (made a)) view' o n dev i k (Ok w)

@@ -25,23 +25,23 @@ use Rattle.szg_file.specs.Tally.{length_of, end_of, fill_from}
 -- ---- offsets
 
 -- the bytes of a section with enough padding bytes
-piece_length : (section : Section) (count : ℕ) (fill : List ℕ) → fill_of section count ≤ length fill →
+chunk_length : (section : Section) (count : ℕ) (fill : List ℕ) → fill_of section count ≤ length fill →
     length (bytes_with section (take (fill_of section count) fill)) ≡ length_of section + fill_of section count
-piece_length (written bytes) count fill h = omega arith
-piece_length (padding unit) count fill h = omega (arith, length-take (gap unit count) fill, h)
-piece_length (spare size) count fill h = omega (arith, length-take size fill, h)
+chunk_length (written bytes) count fill h = omega arith
+chunk_length (padding unit) count fill h = omega (arith, length-take (gap unit count) fill, h)
+chunk_length (spare size) count fill h = omega (arith, length-take size fill, h)
 
 -- the text ends at the offset that the sections lead to, if there are enough padding bytes
 joined-end : (s : List Section) (text fill : List ℕ) → fill_from (length text) s ≤ length fill → length (joined text s fill) ≡ end_of (length text) s
 joined-end [] text fill h = refl
 joined-end (section ∷ s) text fill h =
     let count : ℕ = fill_of section (length text) in
-    let piece : List ℕ = bytes_with section (take count fill) in
-    let one : length piece ≡ length_of section + count = piece_length section (length text) fill (omega (arith, h)) in
-    let next : length (text ++ piece) ≡ length text + length_of section + count = omega (arith, one, length-append text piece) in
-    let left : fill_from (length (text ++ piece)) s ≤ length (drop count fill) =
+    let chunk : List ℕ = bytes_with section (take count fill) in
+    let one : length chunk ≡ length_of section + count = chunk_length section (length text) fill (omega (arith, h)) in
+    let next : length (text ++ chunk) ≡ length text + length_of section + count = omega (arith, one, length-append text chunk) in
+    let left : fill_from (length (text ++ chunk)) s ≤ length (drop count fill) =
     subst (λ (p : ℕ). fill_from p s ≤ length (drop count fill)) (sym next) (omega (arith, h, length-drop count fill)) in
-    joined-end s (text ++ piece) (drop count fill) left ∙ ap (λ (p : ℕ). end_of p s) next
+    joined-end s (text ++ chunk) (drop count fill) left ∙ ap (λ (p : ℕ). end_of p s) next
 
 -- the bytes of a section whose padding bytes are zeros
 zeros_length : (section : Section) (count : ℕ) → length (bytes_with section (replicate (fill_of section count) 0)) ≡ length_of section + fill_of section count
@@ -55,9 +55,9 @@ queried-from text [] = refl
 queried-from text (section ∷ s) =
     let count : ℕ = fill_of section (length text) in
     let zeros : List ℕ = replicate count 0 in
-    let piece : List ℕ = bytes_with section zeros in
-    let next : length (text ++ piece) ≡ length text + length_of section + count = omega (arith, zeros_length section (length text), length-append text piece) in
-    ap (λ (n : ℕ). count + n) (queried-from (text ++ piece) s ∙ ap (λ (p : ℕ). fill_from p s) next)
+    let chunk : List ℕ = bytes_with section zeros in
+    let next : length (text ++ chunk) ≡ length text + length_of section + count = omega (arith, zeros_length section (length text), length-append text chunk) in
+    ap (λ (n : ℕ). count + n) (queried-from (text ++ chunk) s ∙ ap (λ (p : ℕ). fill_from p s) next)
 
 -- ---- sums over sections
 

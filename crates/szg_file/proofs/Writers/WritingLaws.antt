@@ -22,9 +22,9 @@ use Rattle.szg_file.specs.Writing.{Writing, Writes, Stops, Answer, CountsOut, tu
 pub joined-front : (text : List ℕ) (s : List Section) (fill : List ℕ) → (rest : List ℕ) × (joined text s fill ≡ text ++ rest)
 joined-front text [] fill = ([], sym (append-nil text))
 joined-front text (section ∷ s) fill =
-    let piece : List ℕ = bytes_with section (take (fill_of section (length text)) fill) in
-    let h = joined-front (text ++ piece) s (drop (fill_of section (length text)) fill) in
-    (piece ++ h.0, h.1 ∙ append_assoc text piece h.0)
+    let chunk : List ℕ = bytes_with section (take (fill_of section (length text)) fill) in
+    let h = joined-front (text ++ chunk) s (drop (fill_of section (length text)) fill) in
+    (chunk ++ h.0, h.1 ∙ append_assoc text chunk h.0)
 
 -- ---- calls in sequence
 
@@ -261,12 +261,12 @@ writes_padding unit count {o = o} {n = n} {dev = dev} {i = i} {k = k} r whole e 
 
 -- A fault while the buffered bytes are written.
 pub writes_held_stopped : {X W : Type 0} (o n : Outgoing)
-    {dev : Ghosts W} {i k : W} (piece : List ℕ) (count : ℕ) (fault : WriteFault) → piece ≡ o.held.items →
-    count < length piece → fault.out ≡ (o.out + count) % 2 ^ 64 →
-    Gives dev i k (take count piece) 1 →
+    {dev : Ghosts W} {i k : W} (chunk : List ℕ) (count : ℕ) (fault : WriteFault) → chunk ≡ o.held.items →
+    count < length chunk → fault.out ≡ (o.out + count) % 2 ^ 64 →
+    Gives dev i k (take count chunk) 1 →
     HasFailed (dev.failures i) (dev.failures k) (dev.interrupted k) →
     Writing {X = X} [] o n dev i k (Err fault)
-writes_held_stopped o n {dev = dev} {i = i} {k = k} piece count fault held at out given failed = record {
+writes_held_stopped o n {dev = dev} {i = i} {k = k} chunk count fault held at out given failed = record {
   bytes = take count o.held.items;
   given = subst (λ (z : List ℕ). Gives dev i k (take count z) 1) held given;
   answer = let short : count < length o.held.items = omega (arith, at, ap length held) in (
@@ -288,18 +288,18 @@ writes_held_stopped o n {dev = dev} {i = i} {k = k} piece count fault held at ou
 }
 
 -- A chunk that is buffered.
-pub writes_held : {X W : Type 0} (x : X) (piece : List ℕ) (o n : Outgoing)
+pub writes_held : {X W : Type 0} (x : X) (chunk : List ℕ) (o n : Outgoing)
     {dev : Ghosts W} {i : W} →
-    n.out ≡ o.out → n.held.items ≡ o.held.items ++ piece → n.fill.now ≡ o.fill.now →
-    Writing (written piece ∷ []) o n dev i i (Ok x)
-writes_held x piece o n {dev = dev} {i = i} out held fill = record {
+    n.out ≡ o.out → n.held.items ≡ o.held.items ++ chunk → n.fill.now ≡ o.fill.now →
+    Writing (written chunk ∷ []) o n dev i i (Ok x)
+writes_held x chunk o n {dev = dev} {i = i} out held fill = record {
   bytes = [];
   given = Gives-none dev i 0;
   answer = (
     record {
       counts = λ text h. subst (λ (z : List ℕ). CountsOut n.out z) (sym (append-nil text)) (out ∙ h);
       whole = λ text more h.
-          ap (λ (z : List ℕ). joined z more o.fill.now) (append_assoc text o.held.items piece)
+          ap (λ (z : List ℕ). joined z more o.fill.now) (append_assoc text o.held.items chunk)
           ∙ ap (λ (z : List ℕ). joined (text ++ z) more o.fill.now) (sym held)
           ∙ ap (λ (z : List ℕ). joined (z ++ n.held.items) more o.fill.now) (sym (append-nil text))
           ∙ ap (λ (z : List ℕ). joined ((text ++ []) ++ n.held.items) more z) (sym fill);
@@ -308,54 +308,54 @@ writes_held x piece o n {dev = dev} {i = i} out held fill = record {
   );
 }
 
-nothing_held : (text held piece : List ℕ) → held ≡ [] → (text ++ held) ++ piece ≡ text ++ piece
-nothing_held text held piece e = ap (λ (z : List ℕ). (text ++ z) ++ piece) e ∙ ap (λ (z : List ℕ). z ++ piece) (append-nil text)
+nothing_held : (text held chunk : List ℕ) → held ≡ [] → (text ++ held) ++ chunk ≡ text ++ chunk
+nothing_held text held chunk e = ap (λ (z : List ℕ). (text ++ z) ++ chunk) e ∙ ap (λ (z : List ℕ). z ++ chunk) (append-nil text)
 
 -- A chunk that is written while the buffer is empty.
-pub writes_piece : {X W : Type 0} (x : X) (piece : List ℕ) (o n : Outgoing)
+pub writes_chunk : {X W : Type 0} (x : X) (chunk : List ℕ) (o n : Outgoing)
     {dev : Ghosts W} {i k : W} →
-    o.held.items ≡ [] → n.held.items ≡ [] → n.out ≡ (o.out + length piece) % 2 ^ 64 → n.fill.now ≡ o.fill.now →
-    Gives dev i k piece 0 → dev.failures k ≡ dev.failures i →
-    Writing (written piece ∷ []) o n dev i k (Ok x)
-writes_piece x piece o n before after out fill given quiet = record {
-  bytes = piece;
+    o.held.items ≡ [] → n.held.items ≡ [] → n.out ≡ (o.out + length chunk) % 2 ^ 64 → n.fill.now ≡ o.fill.now →
+    Gives dev i k chunk 0 → dev.failures k ≡ dev.failures i →
+    Writing (written chunk ∷ []) o n dev i k (Ok x)
+writes_chunk x chunk o n before after out fill given quiet = record {
+  bytes = chunk;
   given = given;
   answer = (
     record {
-      counts = λ text h. omega (arith, out, h, length-append text piece);
+      counts = λ text h. omega (arith, out, h, length-append text chunk);
       whole = λ text more h.
-          ap (λ (z : List ℕ). joined z more o.fill.now) (nothing_held text o.held.items piece before)
-          ∙ ap (λ (z : List ℕ). joined z more o.fill.now) (sym (append-nil (text ++ piece)))
-          ∙ ap (λ (z : List ℕ). joined ((text ++ piece) ++ z) more o.fill.now) (sym after)
-          ∙ ap (λ (z : List ℕ). joined ((text ++ piece) ++ n.held.items) more z) (sym fill);
+          ap (λ (z : List ℕ). joined z more o.fill.now) (nothing_held text o.held.items chunk before)
+          ∙ ap (λ (z : List ℕ). joined z more o.fill.now) (sym (append-nil (text ++ chunk)))
+          ∙ ap (λ (z : List ℕ). joined ((text ++ chunk) ++ z) more o.fill.now) (sym after)
+          ∙ ap (λ (z : List ℕ). joined ((text ++ chunk) ++ n.held.items) more z) (sym fill);
     },
     quiet,
   );
 }
 
 -- A fault while it is written.
-pub writes_piece_stopped : {X W : Type 0} (piece : List ℕ) (o n : Outgoing)
+pub writes_chunk_stopped : {X W : Type 0} (chunk : List ℕ) (o n : Outgoing)
     {dev : Ghosts W} {i k : W} (count : ℕ) (fault : WriteFault) →
-    o.held.items ≡ [] → count < length piece → fault.out ≡ (o.out + count) % 2 ^ 64 →
-    Gives dev i k (take count piece) 1 →
+    o.held.items ≡ [] → count < length chunk → fault.out ≡ (o.out + count) % 2 ^ 64 →
+    Gives dev i k (take count chunk) 1 →
     HasFailed (dev.failures i) (dev.failures k) (dev.interrupted k) →
-    Writing {X = X} (written piece ∷ []) o n dev i k (Err fault)
-writes_piece_stopped piece o n count fault before short out given failed = record {
-  bytes = take count piece;
+    Writing {X = X} (written chunk ∷ []) o n dev i k (Err fault)
+writes_chunk_stopped chunk o n count fault before short out given failed = record {
+  bytes = take count chunk;
   given = given;
   answer = (
     record {
-      counts = λ text h. omega (arith, out, h, length-append text (take count piece), length-take count piece, short);
+      counts = λ text h. omega (arith, out, h, length-append text (take count chunk), length-take count chunk, short);
       begun = λ text more h.
-          let rest = joined-front (text ++ piece) more o.fill.now in
-          let left : List ℕ = drop count piece in (
+          let rest = joined-front (text ++ chunk) more o.fill.now in
+          let left : List ℕ = drop count chunk in (
             left ++ rest.0,
-            omega (arith, length-append left rest.0, length-drop count piece, short),
-            ap (λ (z : List ℕ). joined z more o.fill.now) (nothing_held text o.held.items piece before)
+            omega (arith, length-append left rest.0, length-drop count chunk, short),
+            ap (λ (z : List ℕ). joined z more o.fill.now) (nothing_held text o.held.items chunk before)
                 ∙ rest.1
-                ∙ ap (λ (z : List ℕ). (text ++ z) ++ rest.0) (sym (take-append-drop count piece))
-                ∙ ap (λ (z : List ℕ). z ++ rest.0) (sym (append_assoc text (take count piece) left))
-                ∙ append_assoc (text ++ take count piece) left rest.0,
+                ∙ ap (λ (z : List ℕ). (text ++ z) ++ rest.0) (sym (take-append-drop count chunk))
+                ∙ ap (λ (z : List ℕ). z ++ rest.0) (sym (append_assoc text (take count chunk) left))
+                ∙ append_assoc (text ++ take count chunk) left rest.0,
           );
     },
     failed,
@@ -497,8 +497,8 @@ pub writes_as : {X W : Type 0} {s t : List Section} {o n : Outgoing}
 writes_as {o = o} {n = n} {dev = dev} {i = i} {k = k} {r = r} e h =
     subst (λ (z : List Section). Writing z o n dev i k r) (sym e) h
 
-pub one_piece : (x y : List ℕ) → x ≡ y → written x ∷ [] ≡ written y ∷ []
-one_piece x y e = ap (λ (z : List ℕ). written z ∷ []) e
+pub one_chunk : (x y : List ℕ) → x ≡ y → written x ∷ [] ≡ written y ∷ []
+one_chunk x y e = ap (λ (z : List ℕ). written z ∷ []) e
 
 four_apart : (text : List ℕ) (a b c d : ℕ) → (((text ++ a ∷ []) ++ b ∷ []) ++ c ∷ []) ++ d ∷ [] ≡ text ++ a ∷ b ∷ c ∷ d ∷ []
 four_apart text a b c d = simp append_assoc

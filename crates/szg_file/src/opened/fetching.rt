@@ -86,8 +86,8 @@ fn value_at(found: &Slotted, i: u64, spot: BlockSpot, block: &[u8]) -> Result<u1
 
 /// Returns `count` bytes from `offset` on. None if there are fewer.
 fn bytes_from(bytes: &[u8], offset: u64, count: u64) -> Option<&[u8]>
-    ensures there { IfSome result (λ piece. piece.now ≡ bytes_at bytes.now offset count) }
-    ensures whole { IfSome result (λ piece. length piece.now ≡ count) }
+    ensures there { IfSome result (λ chunk. chunk.now ≡ bytes_at bytes.now offset count) }
+    ensures whole { IfSome result (λ chunk. length chunk.now ≡ count) }
     ensures none { IfNone result (length bytes.now < offset + count) }
 {
     let length = bytes.len() as u64;

@@ -19,8 +19,8 @@ pub struct Forward<S: Source + Drop> {
     end: u64,
     // the offset up to which it may read ahead
     ahead: u64,
-    // the bytes from `place` on that were read ahead: `piece[from..to]`
-    piece: Vec<u8>,
+    // the bytes from `place` on that were read ahead: `chunk[from..to]`
+    chunk: Vec<u8>,
     from: usize,
     to: usize,
     calls: u64,
@@ -40,16 +40,16 @@ impl<S: Source + Drop> Model for Forward<S> {
       calls = f.calls;
     } };
 
-    ghost invariant = { λ f. IsForward (S.content f.source) f.place f.end f.piece.items f.from f.to };
+    ghost invariant = { λ f. IsForward (S.content f.source) f.place f.end f.chunk.items f.from f.to };
 }
 
 impl<S: Source + Drop> Forward<S> {
     ghost use Rattle.std.specs.Prelude.{◌≡◌, ◌<◌, length};
 
-    /// Creates a reader at the source's first byte, which reads chunks of at most the length of `piece`. Its
+    /// Creates a reader at the source's first byte, which reads chunks of at most the length of `chunk`. Its
     /// failures are the source's; its call count is 0.
-    pub fn new(source: S, piece: Vec<u8>) -> Forward<S>
-        requires { 0 < length piece.items }
+    pub fn new(source: S, chunk: Vec<u8>) -> Forward<S>
+        requires { 0 < length chunk.items }
         ensures content { result.content ≡ S.content source }
         ensures place { result.place ≡ 0 }
         ensures failed { result.failed ≡ S.failed source }
@@ -60,7 +60,7 @@ impl<S: Source + Drop> Forward<S> {
             place: 0,
             end,
             ahead: 0,
-            piece,
+            chunk,
             from: 0,
             to: 0,
             calls: 0,
@@ -78,24 +78,24 @@ impl<S: Source + Drop> Forward<S> {
 
 /// Reads bytes from `place` on, before `last`, into the front of a chunk; returns their number. There is at least
 /// one.
-fn read_piece<S: Source>(
+fn read_chunk<S: Source>(
     source: &mut S,
     place: u64,
     last: u64,
-    piece: &mut [u8],
+    chunk: &mut [u8],
 ) -> Result<usize, SourceFault>
     requires last { last ≤ length (S.content source.old) }
     requires some { place < last }
-    requires room { 0 < length piece.old }
-    ensures read { IfOk result (λ n. take n piece.new ≡ take n (drop place (S.content source.old))) }
+    requires room { 0 < length chunk.old }
+    ensures read { IfOk result (λ n. take n chunk.new ≡ take n (drop place (S.content source.old))) }
     ensures some { IfOk result (λ n. 0 < n) }
-    ensures within { IfOk result (λ n. n ≤ length piece.new) }
+    ensures within { IfOk result (λ n. n ≤ length chunk.new) }
     ensures inside { IfOk result (λ n. place + n ≤ last) }
     ensures same_bytes { S.content source.new ≡ S.content source.old }
     ensures failed { S.failed source.new ≡ failed_after result (S.failed source.old) }
 {
-    let size = (last - place).min(piece.len() as u64) as usize;
-    source.read_at(place, &mut piece[..size])
+    let size = (last - place).min(chunk.len() as u64) as usize;
+    source.read_at(place, &mut chunk[..size])
 }
 
 /// Returns the range of the chunk's bytes to be returned next: those left in it, else up to `most` bytes that are
@@ -104,15 +104,15 @@ fn next_bytes<S: Source>(
     source: &mut S,
     place: u64,
     end: u64,
-    piece: &mut [u8],
+    chunk: &mut [u8],
     from: usize,
     to: usize,
     most: u64,
 ) -> Result<(usize, usize), SourceFault>
-    requires { IsForward (S.content source.old) place end piece.old from to }
-    ensures held { IfOk result (λ left. IsForward (S.content source.old) place end piece.new left.0 left.1) }
+    requires { IsForward (S.content source.old) place end chunk.old from to }
+    ensures held { IfOk result (λ left. IsForward (S.content source.old) place end chunk.new left.0 left.1) }
     ensures some { IfOk result (λ left. left.0 ≡ left.1 → 0 < most → place ≡ end) }
-    ensures none_held { OnErr result (IsForward (S.content source.old) place end piece.new from to) }
+    ensures none_held { OnErr result (IsForward (S.content source.old) place end chunk.new from to) }
     ensures same_bytes { S.content source.new ≡ S.content source.old }
     ensures failed { S.failed source.new ≡ failed_after result (S.failed source.old) }
 {
@@ -120,7 +120,7 @@ fn next_bytes<S: Source>(
         return Ok((from, to));
     }
     let last = place.saturating_add(most).min(end);
-    let count = read_piece(source, place, last, piece)?;
+    let count = read_chunk(source, place, last, chunk)?;
     Ok((0, count))
 }
 
@@ -149,15 +149,15 @@ impl<S: Source + Drop> Input for Forward<S> {
 
     ghost may_fail = { λ _. true };
 
-    fn take(&mut self, piece: &mut [u8]) -> Result<usize, IoFault> {
+    fn take(&mut self, chunk: &mut [u8]) -> Result<usize, IoFault> {
         self.calls = self.calls.saturating_add(1);
         let expected = self.ahead.saturating_sub(self.place);
-        let most = expected.max(piece.len() as u64);
+        let most = expected.max(chunk.len() as u64);
         let (from, to) = match next_bytes(
             &mut self.source,
             self.place,
             self.end,
-            &mut self.piece,
+            &mut self.chunk,
             self.from,
             self.to,
             most,
@@ -165,7 +165,7 @@ impl<S: Source + Drop> Input for Forward<S> {
             Ok(left) => left,
             Err(_) => return Err(IoFault::Failed),
         };
-        let n = copy_front(&self.piece[from..to], piece);
+        let n = copy_front(&self.chunk[from..to], chunk);
         self.from = from + n;
         self.to = to;
         self.place += n as u64;

@@ -14,8 +14,8 @@ ghost use Rattle.szg_file.specs.Unread.{BeginsWithFront, unread_file};
 use crate::fault::{ReadFault, Reason};
 use crate::opened::placing::{padding_to_64, place_subs};
 use crate::reading::dropping::PlacedSub;
-use crate::reading::front::Front;
 use crate::reading::read_front::{FrontRead, read_front};
+use crate::reading::state::ReaderState;
 use crate::table_index::{TableIndex, index_of_placed};
 use std::alloc::Global;
 use std::marker::Model;
@@ -153,9 +153,9 @@ pub fn open_front<R: Input>(
     ensures may_fail { IsErrOf result ReadFault.Device → IsTrue (R.may_fail input.old) }
     ensures quiet { (IsErrOf result ReadFault.Device → ⊥) → R.failures input.new ≡ R.failures input.old }
 {
-    let mut front = Front::new(alloc);
-    let read = read_front(alloc, &material, kind, input, &mut front)?;
-    let place = front.place;
+    let mut state = ReaderState::new(alloc);
+    let read = read_front(alloc, &material, kind, input, &mut state)?;
+    let place = state.place;
     if size < place {
         return Err(ReadFault::Refused {
             place: size,

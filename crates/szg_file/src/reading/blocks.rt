@@ -10,7 +10,7 @@ ghost use Rattle.szg_file.specs.WholeRead.{sub_lengths};
 
 use crate::begun::Measured;
 use crate::fault::{ReadFault, Reason};
-use crate::reading::front::{Front, append};
+use crate::reading::state::{ReaderState, append};
 use crate::reading::taking::{take_fill, take_more};
 use crate::typed::code_fits;
 use std::alloc::Global;
@@ -22,21 +22,21 @@ pub(crate) fn read_blocks<R: Input>(
     alloc: Global,
     list: Vec<Measured>,
     input: &mut R,
-    front: &mut Front,
+    state: &mut ReaderState,
 ) -> Result<Vec<Sub>, ReadFault>
-    requires place { front.old.place < 2 ^ 60 }
+    requires place { state.old.place < 2 ^ 60 }
     requires few { length list.items ≤ 8 }
-    requires paid { front.old.growth ≤ 2 * front.old.place + 2 ^ 14 }
-    ensures blocks { Reading (each blocks_field list.items) (λ subs. map subtable_of subs.items) front.old front.new R.Input input.old input.new result }
-    ensures place { OnOk result (front.new.place ≤ front.old.place + 2 ^ 55) }
-    ensures growth { OnOk result (front.new.growth + 2 * front.old.place ≤ front.old.growth + 2 * front.new.place + 8) }
+    requires growth_bound { state.old.growth ≤ 2 * state.old.place + 2 ^ 14 }
+    ensures blocks { Reading (each blocks_field list.items) (λ subs. map subtable_of subs.items) state.old state.new R.Input input.old input.new result }
+    ensures place { OnOk result (state.new.place ≤ state.old.place + 2 ^ 55) }
+    ensures growth { OnOk result (state.new.growth + 2 * state.old.place ≤ state.old.growth + 2 * state.new.place + 8) }
     ensures count { IfOk result (λ subs. length subs.items ≡ length list.items) }
-    ensures grown { IfOk result (λ subs. HasCounted front.old front.new (begun_lengths list.items) (length subs.items + subs_lengths subs.items)) }
+    ensures grown { IfOk result (λ subs. HasCounted state.old state.new (begun_lengths list.items) (length subs.items + subs_lengths subs.items)) }
 {
     let mut subs = Vec::new(alloc);
     'subtables: for measured in list {
-        let sub = read_sub(alloc, measured, input, front)?;
-        append(&mut subs, sub, front)?;
+        let sub = read_sub(alloc, measured, input, state)?;
+        append(&mut subs, sub, state)?;
     }
     Ok(subs)
 }
@@ -46,22 +46,22 @@ fn read_sub<R: Input>(
     alloc: Global,
     measured: Measured,
     input: &mut R,
-    front: &mut Front,
+    state: &mut ReaderState,
 ) -> Result<Sub, ReadFault>
-    requires place { front.old.place < 2 ^ 60 + 2 ^ 55 }
-    requires paid { front.old.growth ≤ 2 * front.old.place + 2 ^ 15 }
-    ensures blocks { Reading (blocks_field measured) subtable_of front.old front.new R.Input input.old input.new result }
-    ensures place { OnOk result (front.new.place ≤ front.old.place + 2 ^ 51) }
-    ensures growth { OnOk result (front.new.growth + 2 * front.old.place ≤ front.old.growth + 2 * front.new.place) }
-    ensures grown { IfOk result (λ sub. HasCounted front.old front.new (sub_lengths measured.subtable) (sub_lengths (subtable_of sub))) }
+    requires place { state.old.place < 2 ^ 60 + 2 ^ 55 }
+    requires growth_bound { state.old.growth ≤ 2 * state.old.place + 2 ^ 15 }
+    ensures blocks { Reading (blocks_field measured) subtable_of state.old state.new R.Input input.old input.new result }
+    ensures place { OnOk result (state.new.place ≤ state.old.place + 2 ^ 51) }
+    ensures growth { OnOk result (state.new.growth + 2 * state.old.place ≤ state.old.growth + 2 * state.new.place) }
+    ensures grown { IfOk result (λ sub. HasCounted state.old state.new (sub_lengths measured.subtable) (sub_lengths (subtable_of sub))) }
 {
     let Measured { slot, mut sub, .. } = measured;
     if is_constant(&sub) {
         return Ok(sub);
     }
-    take_fill(alloc, 64, input, front)?;
+    take_fill(alloc, 64, input, state)?;
     input.expect(u64::from(block_count(&sub)) * block_bytes(&sub));
-    let taken = take_packed(alloc, &sub, slot.size, input, front)?;
+    let taken = take_packed(alloc, &sub, slot.size, input, state)?;
     if let Sub::Pairs { packed, .. } = &mut sub {
         *packed = taken;
     }
@@ -83,15 +83,15 @@ fn take_packed<R: Input>(
     sub: &Sub,
     size: u64,
     input: &mut R,
-    front: &mut Front,
+    state: &mut ReaderState,
 ) -> Result<Vec<u8>, ReadFault>
-    requires place { front.old.place < 2 ^ 61 }
-    requires paid { front.old.growth ≤ 2 * front.old.place + 2 ^ 15 }
+    requires place { state.old.place < 2 ^ 61 }
+    requires growth_bound { state.old.growth ≤ 2 * state.old.place + 2 ^ 15 }
     requires shaped { IsShapedHead sub.now size }
-    ensures blocks { IfSome (layout_of sub.now) (λ layout. Reading (blocks_from layout size 0 layout.blocks) (λ packed. packed.items) front.old front.new R.Input input.old input.new result) }
-    ensures place { OnOk result (front.new.place ≤ front.old.place + 2 ^ 50) }
-    ensures growth { OnOk result (front.new.growth + 2 * front.old.place ≤ front.old.growth + 2 * front.new.place) }
-    ensures grown { IfOk result (λ packed. HasCounted front.old front.new 0 (length packed.items)) }
+    ensures blocks { IfSome (layout_of sub.now) (λ layout. Reading (blocks_from layout size 0 layout.blocks) (λ packed. packed.items) state.old state.new R.Input input.old input.new result) }
+    ensures place { OnOk result (state.new.place ≤ state.old.place + 2 ^ 50) }
+    ensures growth { OnOk result (state.new.growth + 2 * state.old.place ≤ state.old.growth + 2 * state.new.place) }
+    ensures grown { IfOk result (λ packed. HasCounted state.old state.new 0 (length packed.items)) }
 {
     let mut packed = Vec::new(alloc);
     let Sub::Pairs {
@@ -106,9 +106,9 @@ fn take_packed<R: Input>(
     code_fits(code);
     let mut before = 0;
     'each_block: for n in 0..*blocks {
-        let place = front.place;
+        let place = state.place;
         let at = packed.len();
-        take_more(&mut packed, block_bytes(sub), input, front)?;
+        take_more(&mut packed, block_bytes(sub), input, state)?;
         let Ok(()) = check_block_from(sub, size, n, before, &packed[at..]) else {
             return Err(ReadFault::Refused {
                 place,

@@ -14,8 +14,8 @@ ghost use Rattle.szg_file.specs.Values.{slotted, values_in};
 use crate::begun::Measured;
 use crate::fault::{ReadFault, Reason};
 use crate::reading::blocks::{block_bytes, is_constant};
-use crate::reading::front::{Front, append};
 use crate::reading::sink::ValueSink;
+use crate::reading::state::{ReaderState, append};
 use crate::reading::streaming::{pass_blocks_to, put_constant};
 use crate::reading::taking::{take_field, take_fill};
 use std::alloc::Global;
@@ -39,25 +39,25 @@ pub(crate) fn pass_subs<R: Input, W, K: ValueSink<W>>(
     list: Vec<Measured>,
     buffer: &mut Vec<u8>,
     input: &mut R,
-    front: &mut Front,
+    state: &mut ReaderState,
     sink: &mut K,
     out: &mut W,
 ) -> Result<Vec<PlacedSub>, ReadFault>
-    requires place { front.old.place < 2 ^ 60 }
+    requires place { state.old.place < 2 ^ 60 }
     requires few { length list.items ≤ 8 }
-    requires paid { front.old.growth ≤ 2 * front.old.place + 2 ^ 14 }
-    requires at { front.old.place ≡ length (R.moved input.old) }
-    ensures blocks { Reading (each blocks_field list.items) (λ subs. map (whole_sub (R.moved input.new)) subs.items) front.old front.new R.Input input.old input.new result }
+    requires growth_bound { state.old.growth ≤ 2 * state.old.place + 2 ^ 14 }
+    requires at { state.old.place ≡ length (R.moved input.old) }
+    ensures blocks { Reading (each blocks_field list.items) (λ subs. map (whole_sub (R.moved input.new)) subs.items) state.old state.new R.Input input.old input.new result }
     ensures fits { IfOk result (λ subs. AllByRecursion (Fits (length (R.moved input.new)) (length buffer.new.items)) subs.items) }
-    ensures place { OnOk result (front.new.place ≤ front.old.place + 2 ^ 55) }
-    ensures growth { OnOk result (front.new.growth + 2 * front.old.place ≤ front.old.growth + 2 * front.new.place + 8) }
+    ensures place { OnOk result (state.new.place ≤ state.old.place + 2 ^ 55) }
+    ensures growth { OnOk result (state.new.growth + 2 * state.old.place ≤ state.old.growth + 2 * state.new.place + 8) }
     ensures many { IfOk result (λ subs. length subs.items ≡ length list.items) }
     ensures accepted { IfOk result (λ subs. Accepted K.accepts (wanted_values (K.wanted sink.old) kind (slotted (map (λ measured. measured.slot) list.items) (map (whole_sub (R.moved input.new)) subs.items))) sink.old out.old sink.new out.new) }
 {
     let mut subs = Vec::new(alloc);
     'subtables: for measured in list {
-        let sub = pass_sub(alloc, kind, measured, buffer, input, front, sink, out)?;
-        append(&mut subs, sub, front)?;
+        let sub = pass_sub(alloc, kind, measured, buffer, input, state, sink, out)?;
+        append(&mut subs, sub, state)?;
     }
     Ok(subs)
 }
@@ -70,18 +70,18 @@ fn pass_sub<R: Input, W, K: ValueSink<W>>(
     measured: Measured,
     buffer: &mut Vec<u8>,
     input: &mut R,
-    front: &mut Front,
+    state: &mut ReaderState,
     sink: &mut K,
     out: &mut W,
 ) -> Result<PlacedSub, ReadFault>
-    requires place { front.old.place < 2 ^ 60 + 2 ^ 55 }
-    requires paid { front.old.growth ≤ 2 * front.old.place + 2 ^ 15 }
-    requires at { front.old.place ≡ length (R.moved input.old) }
-    ensures blocks { Reading (blocks_field measured) (whole_sub (R.moved input.new)) front.old front.new R.Input input.old input.new result }
+    requires place { state.old.place < 2 ^ 60 + 2 ^ 55 }
+    requires growth_bound { state.old.growth ≤ 2 * state.old.place + 2 ^ 15 }
+    requires at { state.old.place ≡ length (R.moved input.old) }
+    ensures blocks { Reading (blocks_field measured) (whole_sub (R.moved input.new)) state.old state.new R.Input input.old input.new result }
     ensures fits { IfOk result (Fits (length (R.moved input.new)) (length buffer.new.items)) }
     ensures room { OnOk result (length buffer.old.items ≤ length buffer.new.items) }
-    ensures place { OnOk result (front.new.place ≤ front.old.place + 2 ^ 51) }
-    ensures growth { OnOk result (front.new.growth + 2 * front.old.place ≤ front.old.growth + 2 * front.new.place) }
+    ensures place { OnOk result (state.new.place ≤ state.old.place + 2 ^ 51) }
+    ensures growth { OnOk result (state.new.growth + 2 * state.old.place ≤ state.old.growth + 2 * state.new.place) }
     ensures accepted { IfOk result (λ placed. Accepted K.accepts (values_if (K.wanted sink.old measured.slot.part measured.slot.side) (values_in kind measured.slot.size (whole_sub (R.moved input.new) placed))) sink.old out.old sink.new out.new) }
     ensures wanted { K.wanted sink.new ≡ K.wanted sink.old }
 {
@@ -92,11 +92,11 @@ fn pass_sub<R: Input, W, K: ValueSink<W>>(
     }
     let size = block_bytes(&sub) as usize;
     make_room(buffer, size)?;
-    take_fill(alloc, 64, input, front)?;
-    let first = front.place;
+    take_fill(alloc, 64, input, state)?;
+    let first = state.place;
     input.expect(u64::from(block_count(&sub)) * block_bytes(&sub));
     let block = &mut buffer[..size];
-    pass_blocks_to(alloc, block, &sub, slot, input, front, sink, out)?;
+    pass_blocks_to(alloc, block, &sub, slot, input, state, sink, out)?;
     Ok(PlacedSub { sub, first })
 }
 
@@ -122,23 +122,23 @@ pub(crate) fn pass_block<R: Input>(
     n: u32,
     before: u64,
     input: &mut R,
-    front: &mut Front,
+    state: &mut ReaderState,
 ) -> Result<(), ReadFault>
-    requires place { front.old.place < 2 ^ 61 + 2 ^ 50 }
+    requires place { state.old.place < 2 ^ 61 + 2 ^ 50 }
     requires room { IfSome (layout_of sub.now) (λ layout. length buffer.old ≡ 2 ^ layout.block_bits) }
     requires short { length buffer.old ≤ 2 ^ 18 }
     requires shaped { IsShapedHead sub.now size }
     requires code { IfSome (layout_of sub.now) (λ layout. IsCode layout.code) }
     requires there { IsSomeAnd (layout_of sub.now) (λ layout. n < layout.blocks) }
     requires before { IsSomeAnd (layout_of sub.now) (λ layout. before ≡ start layout.lengths n) }
-    ensures block { IfSome (layout_of sub.now) (λ layout. Reading (block_field layout size n) (λ _. since (R.moved input.old) (R.moved input.new)) front.old front.new R.Input input.old input.new result) }
-    ensures place { OnOk result (front.new.place ≡ front.old.place + length buffer.old) }
-    ensures growth { OnOk result (front.new.growth ≡ front.old.growth) }
+    ensures block { IfSome (layout_of sub.now) (λ layout. Reading (block_field layout size n) (λ _. since (R.moved input.old) (R.moved input.new)) state.old state.new R.Input input.old input.new result) }
+    ensures place { OnOk result (state.new.place ≡ state.old.place + length buffer.old) }
+    ensures growth { OnOk result (state.new.growth ≡ state.old.growth) }
     ensures held { OnOk result (buffer.new ≡ since (R.moved input.old) (R.moved input.new)) }
     ensures words { OnOk result (IsSomeAnd (layout_of sub.now) (λ layout. SpellsNeeded layout size n buffer.new)) }
 {
-    let place = front.place;
-    take_field(input, front, buffer)?;
+    let place = state.place;
+    take_field(input, state, buffer)?;
     match check_block_from(sub, size, n, before, buffer) {
         Ok(()) => Ok(()),
         Err(_) => Err(ReadFault::Refused {

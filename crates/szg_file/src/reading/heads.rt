@@ -11,7 +11,7 @@ ghost use Rattle.szg_file.specs.WholeRead.{sub_lengths};
 use crate::begun::{Begun, Slot};
 use crate::fault::{ReadFault, Reason};
 use crate::flags::has_bit;
-use crate::reading::front::{Front, append};
+use crate::reading::state::{ReaderState, append};
 use crate::reading::taking::{
     read_byte, read_number, take_entries, take_field, take_numbers, take_spare,
 };
@@ -31,22 +31,22 @@ pub(crate) fn read_heads<R: Input>(
     alloc: Global,
     slots: &[Slot],
     input: &mut R,
-    front: &mut Front,
+    state: &mut ReaderState,
 ) -> Result<Vec<Begun>, ReadFault>
-    requires place { front.old.place < 2 ^ 60 }
+    requires place { state.old.place < 2 ^ 60 }
     requires few { length slots.now ≤ 8 }
-    requires paid { front.old.growth ≤ 2 * front.old.place + 2 ^ 14 }
-    ensures heads { Reading (each head_field slots.now) (λ list. map (λ begun. begun.subtable) list.items) front.old front.new R.Input input.old input.new result }
+    requires growth_bound { state.old.growth ≤ 2 * state.old.place + 2 ^ 14 }
+    ensures heads { Reading (each head_field slots.now) (λ list. map (λ begun. begun.subtable) list.items) state.old state.new R.Input input.old input.new result }
     ensures begun { IfOk result (λ list. list.items ≡ begun slots.now (map (λ begun. begun.subtable) list.items)) }
     ensures count { IfOk result (λ list. length list.items ≡ length slots.now) }
-    ensures place { OnOk result (front.new.place ≤ front.old.place + 2 ^ 22) }
-    ensures growth { OnOk result (front.new.growth + 2 * front.old.place ≤ front.old.growth + 2 * front.new.place + 8) }
-    ensures grown { IfOk result (λ list. HasCounted front.old front.new 0 (length list.items + begun_lengths list.items)) }
+    ensures place { OnOk result (state.new.place ≤ state.old.place + 2 ^ 22) }
+    ensures growth { OnOk result (state.new.growth + 2 * state.old.place ≤ state.old.growth + 2 * state.new.place + 8) }
+    ensures grown { IfOk result (λ list. HasCounted state.old state.new 0 (length list.items + begun_lengths list.items)) }
 {
     let mut list = Vec::new(alloc);
     'slots: for slot in slots {
-        let begun = read_head(alloc, *slot, input, front)?;
-        append(&mut list, begun, front)?;
+        let begun = read_head(alloc, *slot, input, state)?;
+        append(&mut list, begun, state)?;
     }
     Ok(list)
 }
@@ -56,25 +56,25 @@ fn read_head<R: Input>(
     alloc: Global,
     slot: Slot,
     input: &mut R,
-    front: &mut Front,
+    state: &mut ReaderState,
 ) -> Result<Begun, ReadFault>
-    requires place { front.old.place + 2 ^ 18 < 2 ^ 62 }
-    requires paid { front.old.growth ≤ 2 * front.old.place + 2 ^ 15 }
-    ensures head { Reading (head_field slot) (λ begun. begun.subtable) front.old front.new R.Input input.old input.new result }
+    requires place { state.old.place + 2 ^ 18 < 2 ^ 62 }
+    requires growth_bound { state.old.growth ≤ 2 * state.old.place + 2 ^ 15 }
+    ensures head { Reading (head_field slot) (λ begun. begun.subtable) state.old state.new R.Input input.old input.new result }
     ensures slot { IfOk result (λ begun. begun ≡ record { slot = slot; subtable = begun.subtable; index = 0 }) }
-    ensures place { OnOk result (front.new.place ≤ front.old.place + 2 ^ 18) }
-    ensures growth { OnOk result (front.new.growth + 2 * front.old.place ≤ front.old.growth + 2 * front.new.place) }
-    ensures grown { IfOk result (λ begun. HasCounted front.old front.new 0 (sub_lengths begun.subtable)) }
+    ensures place { OnOk result (state.new.place ≤ state.old.place + 2 ^ 18) }
+    ensures growth { OnOk result (state.new.growth + 2 * state.old.place ≤ state.old.growth + 2 * state.new.place) }
+    ensures grown { IfOk result (λ begun. HasCounted state.old state.new 0 (sub_lengths begun.subtable)) }
 {
-    let flags = read_byte(input, front)?;
+    let flags = read_byte(input, state)?;
     if has_bit(7, flags) {
-        let byte = read_byte(input, front)?;
+        let byte = read_byte(input, state)?;
         return Ok(Begun {
             slot,
             sub: Sub::Constant { flags, byte },
         });
     }
-    let sub = read_packed_head(alloc, flags, input, front)?;
+    let sub = read_packed_head(alloc, flags, input, state)?;
     Ok(Begun { slot, sub })
 }
 
@@ -83,22 +83,22 @@ fn read_packed_head<R: Input>(
     alloc: Global,
     flags: u8,
     input: &mut R,
-    front: &mut Front,
+    state: &mut ReaderState,
 ) -> Result<Sub, ReadFault>
     requires flags { has_bit 7 flags ≡ false }
-    requires place { front.old.place + 200000 < 2 ^ 62 }
-    requires paid { front.old.growth ≤ 2 * front.old.place + 2 ^ 15 }
-    ensures head { Reading (packed_head flags) subtable_of front.old front.new R.Input input.old input.new result }
+    requires place { state.old.place + 200000 < 2 ^ 62 }
+    requires growth_bound { state.old.growth ≤ 2 * state.old.place + 2 ^ 15 }
+    ensures head { Reading (packed_head flags) subtable_of state.old state.new R.Input input.old input.new result }
     ensures headed { IfOk result IsHeaded }
-    ensures place { OnOk result (front.new.place ≤ front.old.place + 200000) }
-    ensures growth { OnOk result (front.new.growth + 2 * front.old.place ≤ front.old.growth + 2 * front.new.place) }
-    ensures grown { IfOk result (λ sub. HasCounted front.old front.new 0 (sub_lengths (subtable_of sub))) }
+    ensures place { OnOk result (state.new.place ≤ state.old.place + 200000) }
+    ensures growth { OnOk result (state.new.growth + 2 * state.old.place ≤ state.old.growth + 2 * state.new.place) }
+    ensures grown { IfOk result (λ sub. HasCounted state.old state.new 0 (sub_lengths (subtable_of sub))) }
 {
-    let block_bits = read_block_bits(input, front)?;
-    let span_bits = read_span_bits(input, front)?;
-    let sizes = read_sizes(input, front)?;
-    let lowest = read_lowest(alloc, sizes.min, sizes.max, input, front)?;
-    let dict = read_dictionary(alloc, input, front)?;
+    let block_bits = read_block_bits(input, state)?;
+    let span_bits = read_span_bits(input, state)?;
+    let sizes = read_sizes(input, state)?;
+    let lowest = read_lowest(alloc, sizes.min, sizes.max, input, state)?;
+    let dict = read_dictionary(alloc, input, state)?;
     let code = lowest.with_symbols(dict.symbols());
     Ok(Sub::Pairs {
         flags,
@@ -115,16 +115,16 @@ fn read_packed_head<R: Input>(
 }
 
 /// Reads the block bits: a block has 2^bits bytes, at most 2^18.
-fn read_block_bits<R: Input>(input: &mut R, front: &mut Front) -> Result<u8, ReadFault>
-    requires { front.old.place < 2 ^ 62 }
-    ensures bits { Reading (byte_where (λ bits. nat_le bits 18) Reason.BlockBits) (λ bits. bits) front.old front.new R.Input input.old input.new result }
+fn read_block_bits<R: Input>(input: &mut R, state: &mut ReaderState) -> Result<u8, ReadFault>
+    requires { state.old.place < 2 ^ 62 }
+    ensures bits { Reading (byte_where (λ bits. nat_le bits 18) Reason.BlockBits) (λ bits. bits) state.old state.new R.Input input.old input.new result }
     ensures most { IfOk result (λ bits. bits ≤ 18) }
-    ensures place { OnOk result (front.new.place ≡ front.old.place + 1) }
-    ensures growth { OnOk result (front.new.growth ≡ front.old.growth) }
-    ensures grown { OnOk result (HasCounted front.old front.new 0 0) }
+    ensures place { OnOk result (state.new.place ≡ state.old.place + 1) }
+    ensures growth { OnOk result (state.new.growth ≡ state.old.growth) }
+    ensures grown { OnOk result (HasCounted state.old state.new 0 0) }
 {
-    let place = front.place;
-    let bits = read_byte(input, front)?;
+    let place = state.place;
+    let bits = read_byte(input, state)?;
     if bits > 18 {
         return Err(ReadFault::Refused {
             place,
@@ -135,17 +135,17 @@ fn read_block_bits<R: Input>(input: &mut R, front: &mut Front) -> Result<u8, Rea
 }
 
 /// Reads the span bits: each entry of the sparse index covers a span of 2^bits positions, 2 to 2^31.
-fn read_span_bits<R: Input>(input: &mut R, front: &mut Front) -> Result<u8, ReadFault>
-    requires { front.old.place < 2 ^ 62 }
-    ensures bits { Reading (byte_where (λ bits. nat_lt 0 bits && nat_le bits 31) Reason.SpanBits) (λ bits. bits) front.old front.new R.Input input.old input.new result }
+fn read_span_bits<R: Input>(input: &mut R, state: &mut ReaderState) -> Result<u8, ReadFault>
+    requires { state.old.place < 2 ^ 62 }
+    ensures bits { Reading (byte_where (λ bits. nat_lt 0 bits && nat_le bits 31) Reason.SpanBits) (λ bits. bits) state.old state.new R.Input input.old input.new result }
     ensures some { IfOk result (λ bits. 1 ≤ bits) }
     ensures most { IfOk result (λ bits. bits ≤ 31) }
-    ensures place { OnOk result (front.new.place ≡ front.old.place + 1) }
-    ensures growth { OnOk result (front.new.growth ≡ front.old.growth) }
-    ensures grown { OnOk result (HasCounted front.old front.new 0 0) }
+    ensures place { OnOk result (state.new.place ≡ state.old.place + 1) }
+    ensures growth { OnOk result (state.new.growth ≡ state.old.growth) }
+    ensures grown { OnOk result (HasCounted state.old state.new 0 0) }
 {
-    let place = front.place;
-    let bits = read_byte(input, front)?;
+    let place = state.place;
+    let bits = read_byte(input, state)?;
     if bits == 0 || bits > 31 {
         return Err(ReadFault::Refused {
             place,
@@ -166,24 +166,24 @@ pub struct HeadSizes {
 }
 
 /// Reads the sizes after the span bits at once, because no check comes between them.
-fn read_sizes<R: Input>(input: &mut R, front: &mut Front) -> Result<HeadSizes, ReadFault>
-    requires { front.old.place < 2 ^ 62 }
-    ensures sizes { Reading sizes_field (λ sizes. sizes) front.old front.new R.Input input.old input.new result }
+fn read_sizes<R: Input>(input: &mut R, state: &mut ReaderState) -> Result<HeadSizes, ReadFault>
+    requires { state.old.place < 2 ^ 62 }
+    ensures sizes { Reading sizes_field (λ sizes. sizes) state.old state.new R.Input input.old input.new result }
     ensures some { IfOk result (λ sizes. 1 ≤ sizes.min) }
     ensures in_order { IfOk result (λ sizes. sizes.min ≤ sizes.max) }
     ensures most { IfOk result (λ sizes. sizes.max ≤ 32) }
-    ensures place { OnOk result (front.new.place ≡ front.old.place + 7) }
-    ensures growth { OnOk result (front.new.growth ≡ front.old.growth) }
-    ensures grown { OnOk result (HasCounted front.old front.new 0 0) }
+    ensures place { OnOk result (state.new.place ≡ state.old.place + 7) }
+    ensures growth { OnOk result (state.new.growth ≡ state.old.growth) }
+    ensures grown { OnOk result (HasCounted state.old state.new 0 0) }
 {
-    let place = front.place + 5;
-    let mut piece = [0; 7];
-    take_field(input, front, &mut piece)?;
+    let place = state.place + 5;
+    let mut chunk = [0; 7];
+    take_field(input, state, &mut chunk)?;
     let sizes = HeadSizes {
-        extra: piece[0],
-        blocks: LittleEndian::read_u32(&piece[1..]),
-        min: piece[6],
-        max: piece[5],
+        extra: chunk[0],
+        blocks: LittleEndian::read_u32(&chunk[1..]),
+        min: chunk[6],
+        max: chunk[5],
     };
     if sizes.min == 0 || sizes.min > sizes.max || sizes.max > 32 {
         return Err(ReadFault::Refused {
@@ -200,22 +200,22 @@ fn read_lowest<R: Input>(
     min: u8,
     max: u8,
     input: &mut R,
-    front: &mut Front,
+    state: &mut ReaderState,
 ) -> Result<Code, ReadFault>
     requires some { 1 ≤ min }
     requires in_order { min ≤ max }
     requires most { max ≤ 32 }
-    requires place { front.old.place + 64 < 2 ^ 62 }
-    requires paid { front.old.growth ≤ 2 * front.old.place + 2 ^ 15 }
-    ensures lowest { Reading (lowest_list min max) (λ code. code.lowest) front.old front.new R.Input input.old input.new result }
+    requires place { state.old.place + 64 < 2 ^ 62 }
+    requires growth_bound { state.old.growth ≤ 2 * state.old.place + 2 ^ 15 }
+    ensures lowest { Reading (lowest_list min max) (λ code. code.lowest) state.old state.new R.Input input.old input.new result }
     ensures code { IfOk result (λ code. code ≡ code_with min max code.lowest 0) }
     ensures accepted { IfOk result IsCode }
-    ensures place { OnOk result (front.new.place ≡ front.old.place + 2 * (max + 1 - min)) }
-    ensures growth { OnOk result (front.new.growth ≡ front.old.growth + 3 * (max + 1 - min)) }
-    ensures grown { IfOk result (λ code. HasCounted front.old front.new 0 (length code.lowest)) }
+    ensures place { OnOk result (state.new.place ≡ state.old.place + 2 * (max + 1 - min)) }
+    ensures growth { OnOk result (state.new.growth ≡ state.old.growth + 3 * (max + 1 - min)) }
+    ensures grown { IfOk result (λ code. HasCounted state.old state.new 0 (length code.lowest)) }
 {
-    let place = front.place;
-    let lowest = take_numbers(alloc, u64::from(max + 1 - min), input, front)?;
+    let place = state.place;
+    let lowest = take_numbers(alloc, u64::from(max + 1 - min), input, state)?;
     match Code::new(min, max, lowest, 0) {
         Ok(code) => Ok(code),
         // the lengths were checked before
@@ -235,23 +235,23 @@ fn read_lowest<R: Input>(
 fn read_dictionary<R: Input>(
     alloc: Global,
     input: &mut R,
-    front: &mut Front,
+    state: &mut ReaderState,
 ) -> Result<Dict, ReadFault>
-    requires place { front.old.place + 196608 < 2 ^ 62 }
-    requires paid { front.old.growth ≤ 2 * front.old.place + 2 ^ 15 }
-    ensures dictionary { Reading dictionary (λ dict. dict) front.old front.new R.Input input.old input.new result }
-    ensures place { OnOk result (front.new.place ≤ front.old.place + 196608) }
-    ensures growth { OnOk result (front.new.growth + 2 * front.old.place ≤ front.old.growth + 2 * front.new.place) }
-    ensures grown { IfOk result (λ dict. HasCounted front.old front.new 0 (2 * length dict)) }
+    requires place { state.old.place + 196608 < 2 ^ 62 }
+    requires growth_bound { state.old.growth ≤ 2 * state.old.place + 2 ^ 15 }
+    ensures dictionary { Reading dictionary (λ dict. dict) state.old state.new R.Input input.old input.new result }
+    ensures place { OnOk result (state.new.place ≤ state.old.place + 196608) }
+    ensures growth { OnOk result (state.new.growth + 2 * state.old.place ≤ state.old.growth + 2 * state.new.place) }
+    ensures grown { IfOk result (λ dict. HasCounted state.old state.new 0 (2 * length dict)) }
 {
-    let count = read_number(input, front)?;
-    let place = front.place;
-    let entries = take_entries(alloc, u64::from(count), input, front)?;
+    let count = read_number(input, state)?;
+    let place = state.place;
+    let entries = take_entries(alloc, u64::from(count), input, state)?;
     let dict = match Dict::new(alloc, entries) {
         Ok(dict) => dict,
         Err(fault) => return Err(entries_refusal(place, fault)),
     };
-    take_spare(alloc, (count % 2) as u8, input, front)?;
+    take_spare(alloc, (count % 2) as u8, input, state)?;
     Ok(dict)
 }
 

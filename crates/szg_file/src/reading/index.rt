@@ -11,7 +11,7 @@ ghost use Rattle.std.specs.List.{sum_by};
 
 use crate::begun::{Begun, Indexed, Measured};
 use crate::fault::{ReadFault, Reason};
-use crate::reading::front::{Front, append};
+use crate::reading::state::{ReaderState, append};
 use crate::reading::taking::{take_numbers, take_sparse};
 use std::alloc::Global;
 use szg_block::{Sub, SubFault, check_index, entry_count};
@@ -22,28 +22,28 @@ fn take_each<
     T: Drop,
     U: Drop,
     R: Input,
-    F: Fn(Global, T, &mut R, &mut Front) -> Result<U, ReadFault>,
+    F: Fn(Global, T, &mut R, &mut ReaderState) -> Result<U, ReadFault>,
 >(
     alloc: Global,
     list: Vec<T>,
     take: F,
     input: &mut R,
-    front: &mut Front,
+    state: &mut ReaderState,
 ) -> Result<Vec<U>, ReadFault>
     requires may { MayTake F.Fn take }
     requires few { TakesFew F.Fn take }
-    requires place { front.old.place < 2 ^ 60 }
+    requires place { state.old.place < 2 ^ 60 }
     requires short { length list.items ≤ 8 }
-    requires paid { front.old.growth ≤ 2 * front.old.place + 2 ^ 14 }
-    ensures each { (field : T → Format U) (before : T → ℕ) (after : U → ℕ) → TakesAs F.Fn R.Input take field before after → Reading (each field list.items) (λ taken. taken.items) front.old front.new R.Input input.old input.new result × IfOk result (λ taken. HasCounted front.old front.new (sum_by before list.items) (length taken.items + sum_by after taken.items)) }
+    requires growth_bound { state.old.growth ≤ 2 * state.old.place + 2 ^ 14 }
+    ensures each { (field : T → Format U) (before : T → ℕ) (after : U → ℕ) → TakesAs F.Fn R.Input take field before after → Reading (each field list.items) (λ taken. taken.items) state.old state.new R.Input input.old input.new result × IfOk result (λ taken. HasCounted state.old state.new (sum_by before list.items) (length taken.items + sum_by after taken.items)) }
     ensures count { IfOk result (λ taken. length taken.items ≡ length list.items) }
-    ensures place { OnOk result (front.new.place ≤ front.old.place + 2 ^ 40) }
-    ensures growth { OnOk result (front.new.growth + 2 * front.old.place ≤ front.old.growth + 2 * front.new.place + 8) }
+    ensures place { OnOk result (state.new.place ≤ state.old.place + 2 ^ 40) }
+    ensures growth { OnOk result (state.new.growth + 2 * state.old.place ≤ state.old.growth + 2 * state.new.place + 8) }
 {
     let mut taken = Vec::new(alloc);
     'items: for item in list {
-        let next = take(alloc, item, input, front)?;
-        append(&mut taken, next, front)?;
+        let next = take(alloc, item, input, state)?;
+        append(&mut taken, next, state)?;
     }
     Ok(taken)
 }
@@ -53,14 +53,14 @@ fn read_index<R: Input>(
     alloc: Global,
     begun: Begun,
     input: &mut R,
-    front: &mut Front,
+    state: &mut ReaderState,
 ) -> Result<Indexed, ReadFault>
-    requires place { front.old.place < 2 ^ 60 + 2 ^ 40 }
-    requires paid { front.old.growth ≤ 2 * front.old.place + 2 ^ 15 }
-    ensures index { Reading (sparse_field begun) (λ indexed. indexed) front.old front.new R.Input input.old input.new result }
-    ensures place { OnOk result (front.new.place ≤ front.old.place + 2 ^ 36) }
-    ensures growth { OnOk result (front.new.growth + 2 * front.old.place ≤ front.old.growth + 2 * front.new.place) }
-    ensures grown { IfOk result (λ indexed. HasCounted front.old front.new (sub_lengths begun.subtable) (sub_lengths indexed.subtable)) }
+    requires place { state.old.place < 2 ^ 60 + 2 ^ 40 }
+    requires growth_bound { state.old.growth ≤ 2 * state.old.place + 2 ^ 15 }
+    ensures index { Reading (sparse_field begun) (λ indexed. indexed) state.old state.new R.Input input.old input.new result }
+    ensures place { OnOk result (state.new.place ≤ state.old.place + 2 ^ 36) }
+    ensures growth { OnOk result (state.new.growth + 2 * state.old.place ≤ state.old.growth + 2 * state.new.place) }
+    ensures grown { IfOk result (λ indexed. HasCounted state.old state.new (sub_lengths begun.subtable) (sub_lengths indexed.subtable)) }
 {
     let Begun { slot, mut sub } = begun;
     let mut index = 0;
@@ -70,8 +70,8 @@ fn read_index<R: Input>(
         ..
     } = &mut sub
     {
-        index = front.place;
-        *sparse = take_sparse(alloc, entry_count(slot.size, *span_bits), input, front)?;
+        index = state.place;
+        *sparse = take_sparse(alloc, entry_count(slot.size, *span_bits), input, state)?;
     }
     Ok(Indexed { slot, sub, index })
 }
@@ -81,20 +81,20 @@ pub(crate) fn read_lengths<R: Input>(
     alloc: Global,
     list: Vec<Begun>,
     input: &mut R,
-    front: &mut Front,
+    state: &mut ReaderState,
 ) -> Result<Vec<Measured>, ReadFault>
-    requires place { front.old.place < 2 ^ 59 }
+    requires place { state.old.place < 2 ^ 59 }
     requires few { length list.items ≤ 8 }
-    requires paid { front.old.growth ≤ 2 * front.old.place + 2 ^ 13 }
-    ensures lengths { Reading (measured_field list.items) (λ measured. measured.items) front.old front.new R.Input input.old input.new result }
+    requires growth_bound { state.old.growth ≤ 2 * state.old.place + 2 ^ 13 }
+    ensures lengths { Reading (measured_field list.items) (λ measured. measured.items) state.old state.new R.Input input.old input.new result }
     ensures slots { IfOk result (λ measured. map (λ measured. measured.slot) measured.items ≡ map (λ begun. begun.slot) list.items) }
     ensures count { IfOk result (λ measured. length measured.items ≡ length list.items) }
-    ensures place { OnOk result (front.new.place ≤ front.old.place + 2 ^ 41) }
-    ensures growth { OnOk result (front.new.growth + 2 * front.old.place ≤ front.old.growth + 2 * front.new.place + 16) }
-    ensures grown { IfOk result (λ measured. HasCounted front.old front.new (begun_lengths list.items) (2 * length measured.items + begun_lengths measured.items)) }
+    ensures place { OnOk result (state.new.place ≤ state.old.place + 2 ^ 41) }
+    ensures growth { OnOk result (state.new.growth + 2 * state.old.place ≤ state.old.growth + 2 * state.new.place + 16) }
+    ensures grown { IfOk result (λ measured. HasCounted state.old state.new (begun_lengths list.items) (2 * length measured.items + begun_lengths measured.items)) }
 {
-    let indexed = take_each(alloc, list, read_index, input, front)?;
-    let measured = take_each(alloc, indexed, read_measured, input, front)?;
+    let indexed = take_each(alloc, list, read_index, input, state)?;
+    let measured = take_each(alloc, indexed, read_measured, input, state)?;
     Ok(measured)
 }
 
@@ -103,21 +103,21 @@ fn read_measured<R: Input>(
     alloc: Global,
     indexed: Indexed,
     input: &mut R,
-    front: &mut Front,
+    state: &mut ReaderState,
 ) -> Result<Measured, ReadFault>
-    requires place { front.old.place < 2 ^ 60 + 2 ^ 40 }
-    requires paid { front.old.growth ≤ 2 * front.old.place + 2 ^ 15 }
-    ensures lengths { Reading (lengths_field indexed) (λ measured. measured) front.old front.new R.Input input.old input.new result }
-    ensures place { OnOk result (front.new.place ≤ front.old.place + 2 ^ 36) }
-    ensures growth { OnOk result (front.new.growth + 2 * front.old.place ≤ front.old.growth + 2 * front.new.place) }
-    ensures grown { IfOk result (λ measured. HasCounted front.old front.new (sub_lengths indexed.subtable) (sub_lengths measured.subtable)) }
+    requires place { state.old.place < 2 ^ 60 + 2 ^ 40 }
+    requires growth_bound { state.old.growth ≤ 2 * state.old.place + 2 ^ 15 }
+    ensures lengths { Reading (lengths_field indexed) (λ measured. measured) state.old state.new R.Input input.old input.new result }
+    ensures place { OnOk result (state.new.place ≤ state.old.place + 2 ^ 36) }
+    ensures growth { OnOk result (state.new.growth + 2 * state.old.place ≤ state.old.growth + 2 * state.new.place) }
+    ensures grown { IfOk result (λ measured. HasCounted state.old state.new (sub_lengths indexed.subtable) (sub_lengths measured.subtable)) }
 {
     let Indexed {
         slot,
         mut sub,
         index,
     } = indexed;
-    let place = front.place;
+    let place = state.place;
     if let Sub::Pairs {
         extra,
         blocks,
@@ -126,7 +126,7 @@ fn read_measured<R: Input>(
     } = &mut sub
     {
         let count = *blocks as u64 + *extra as u64;
-        *lengths = take_numbers(alloc, count, input, front)?;
+        *lengths = take_numbers(alloc, count, input, state)?;
     }
     if let Some((place, reason)) = index_refusal(&sub, slot.size, place, index) {
         return Err(ReadFault::Refused { place, reason });

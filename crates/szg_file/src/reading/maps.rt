@@ -11,7 +11,7 @@ ghost use Rattle.szg_file.specs.WholeRead.{map_lengths};
 use crate::begun::Begun;
 use crate::fault::ReadFault;
 use crate::flags::{flags_of, has_bit};
-use crate::reading::front::{Front, append};
+use crate::reading::state::{ReaderState, append};
 use crate::reading::taking::{read_byte, read_number, take_bytes, take_fill, take_numbers};
 use crate::table::Map;
 use std::alloc::Global;
@@ -24,25 +24,25 @@ pub(crate) fn read_maps<R: Input>(
     kind: Kind,
     heads: &[Begun],
     input: &mut R,
-    front: &mut Front,
+    state: &mut ReaderState,
 ) -> Result<Vec<Option<Map>>, ReadFault>
-    requires place { front.old.place < 2 ^ 60 }
+    requires place { state.old.place < 2 ^ 60 }
     requires few { length heads.now ≤ 8 }
-    requires paid { front.old.growth ≤ 2 * front.old.place + 2 ^ 14 }
-    ensures maps { Reading (maps_field kind (map (λ begun. begun.subtable) heads.now)) (λ list. map (option_map map_of) list.items) front.old front.new R.Input input.old input.new result }
-    ensures place { OnOk result (front.new.place ≤ front.old.place + 2 ^ 23) }
-    ensures growth { OnOk result (front.new.growth + 2 * front.old.place ≤ front.old.growth + 2 * front.new.place + 8) }
-    ensures grown { IfOk result (λ list. HasCounted front.old front.new 0 (length list.items + maps_lengths list.items)) }
+    requires growth_bound { state.old.growth ≤ 2 * state.old.place + 2 ^ 14 }
+    ensures maps { Reading (maps_field kind (map (λ begun. begun.subtable) heads.now)) (λ list. map (option_map map_of) list.items) state.old state.new R.Input input.old input.new result }
+    ensures place { OnOk result (state.new.place ≤ state.old.place + 2 ^ 23) }
+    ensures growth { OnOk result (state.new.growth + 2 * state.old.place ≤ state.old.growth + 2 * state.new.place + 8) }
+    ensures grown { IfOk result (λ list. HasCounted state.old state.new 0 (length list.items + maps_lengths list.items)) }
 {
     match kind {
         Kind::Wdl => Ok(Vec::new(alloc)),
         Kind::Dtz => {
             let mut list = Vec::new(alloc);
             'heads: for head in heads {
-                let lists = read_map(alloc, head, input, front)?;
-                append(&mut list, lists, front)?;
+                let lists = read_map(alloc, head, input, state)?;
+                append(&mut list, lists, state)?;
             }
-            take_fill(alloc, 2, input, front)?;
+            take_fill(alloc, 2, input, state)?;
             Ok(list)
         }
     }
@@ -54,48 +54,47 @@ fn read_map<R: Input>(
     alloc: Global,
     begun: &Begun,
     input: &mut R,
-    front: &mut Front,
+    state: &mut ReaderState,
 ) -> Result<Option<Map>, ReadFault>
-    requires place { front.old.place + 600000 < 2 ^ 62 }
-    requires paid { front.old.growth ≤ 2 * front.old.place + 2 ^ 15 }
-    ensures lists { Reading (map_field begun.now.subtable) (option_map map_of) front.old front.new R.Input input.old input.new result }
-    ensures place { OnOk result (front.new.place ≤ front.old.place + 600000) }
-    ensures growth { OnOk result (front.new.growth + 2 * front.old.place ≤ front.old.growth + 2 * front.new.place) }
-    ensures grown { IfOk result (λ found. HasCounted front.old front.new 0 (map_lengths (option_map map_of found))) }
+    requires place { state.old.place + 600000 < 2 ^ 62 }
+    requires growth_bound { state.old.growth ≤ 2 * state.old.place + 2 ^ 15 }
+    ensures lists { Reading (map_field begun.now.subtable) (option_map map_of) state.old state.new R.Input input.old input.new result }
+    ensures place { OnOk result (state.new.place ≤ state.old.place + 600000) }
+    ensures growth { OnOk result (state.new.growth + 2 * state.old.place ≤ state.old.growth + 2 * state.new.place) }
+    ensures grown { IfOk result (λ found. HasCounted state.old state.new 0 (map_lengths (option_map map_of found))) }
 {
     let flags = flags_of(&begun.sub);
     if !has_bit(1, flags) {
         return Ok(None);
     }
     if has_bit(4, flags) {
-        take_fill(alloc, 2, input, front)?;
-        let lists = read_four(alloc, read_numbers, input, front)?;
+        take_fill(alloc, 2, input, state)?;
+        let lists = read_four(alloc, read_numbers, input, state)?;
         return Ok(Some(Map::Wide(lists)));
     }
-    let lists = read_four(alloc, read_bytes, input, front)?;
+    let lists = read_four(alloc, read_bytes, input, state)?;
     Ok(Some(Map::Bytes(lists)))
 }
 
 /// Reads four lists, each by a call of `read`: for wins, losses, cursed wins and blessed losses.
-fn read_four<T: Drop, R: Input, F: Fn(Global, &mut R, &mut Front) -> Result<Vec<T>, ReadFault>>(
-    alloc: Global,
-    read: F,
-    input: &mut R,
-    front: &mut Front,
-) -> Result<[Vec<T>; 4], ReadFault>
+fn read_four<
+    T: Drop,
+    R: Input,
+    F: Fn(Global, &mut R, &mut ReaderState) -> Result<Vec<T>, ReadFault>,
+>(alloc: Global, read: F, input: &mut R, state: &mut ReaderState) -> Result<[Vec<T>; 4], ReadFault>
     requires may { MayRead F.Fn read }
     requires few { ReadsFew F.Fn read (λ list. length list.items) }
-    requires place { front.old.place + 4 * 2 ^ 17 < 2 ^ 62 }
-    requires paid { front.old.growth ≤ 2 * front.old.place + 2 ^ 15 }
-    ensures lists { (format : Format (List T)) → ReadsAs F.Fn R.Input read format (λ list. list.items) → Reading (each {A = ℕ} (λ _. format) (1 ∷ 2 ∷ 3 ∷ 4 ∷ [])) (map (λ list. list.items)) front.old front.new R.Input input.old input.new result }
-    ensures place { OnOk result (front.new.place ≤ front.old.place + 4 * 2 ^ 17) }
-    ensures growth { OnOk result (front.new.growth + 2 * front.old.place ≤ front.old.growth + 2 * front.new.place) }
-    ensures grown { IfOk result (λ lists. HasCounted front.old front.new 0 (sum_by (λ list. length list.items) lists)) }
+    requires place { state.old.place + 4 * 2 ^ 17 < 2 ^ 62 }
+    requires growth_bound { state.old.growth ≤ 2 * state.old.place + 2 ^ 15 }
+    ensures lists { (format : Format (List T)) → ReadsAs F.Fn R.Input read format (λ list. list.items) → Reading (each {A = ℕ} (λ _. format) (1 ∷ 2 ∷ 3 ∷ 4 ∷ [])) (map (λ list. list.items)) state.old state.new R.Input input.old input.new result }
+    ensures place { OnOk result (state.new.place ≤ state.old.place + 4 * 2 ^ 17) }
+    ensures growth { OnOk result (state.new.growth + 2 * state.old.place ≤ state.old.growth + 2 * state.new.place) }
+    ensures grown { IfOk result (λ lists. HasCounted state.old state.new 0 (sum_by (λ list. length list.items) lists)) }
 {
-    let wins = read(alloc, input, front)?;
-    let losses = read(alloc, input, front)?;
-    let cursed_wins = read(alloc, input, front)?;
-    let blessed_losses = read(alloc, input, front)?;
+    let wins = read(alloc, input, state)?;
+    let losses = read(alloc, input, state)?;
+    let cursed_wins = read(alloc, input, state)?;
+    let blessed_losses = read(alloc, input, state)?;
     Ok([wins, losses, cursed_wins, blessed_losses])
 }
 
@@ -103,32 +102,32 @@ fn read_four<T: Drop, R: Input, F: Fn(Global, &mut R, &mut Front) -> Result<Vec<
 fn read_bytes<R: Input>(
     alloc: Global,
     input: &mut R,
-    front: &mut Front,
+    state: &mut ReaderState,
 ) -> Result<Vec<u8>, ReadFault>
-    requires place { front.old.place + 256 < 2 ^ 62 }
-    requires paid { front.old.growth ≤ 2 * front.old.place + 2 ^ 15 }
-    ensures list { Reading (list_field 1) (λ list. list.items) front.old front.new R.Input input.old input.new result }
-    ensures place { OnOk result (front.new.place ≤ front.old.place + 256) }
-    ensures growth { OnOk result (front.new.growth + 2 * front.old.place ≤ front.old.growth + 2 * front.new.place) }
-    ensures grown { IfOk result (λ list. HasCounted front.old front.new 0 (length list.items)) }
+    requires place { state.old.place + 256 < 2 ^ 62 }
+    requires growth_bound { state.old.growth ≤ 2 * state.old.place + 2 ^ 15 }
+    ensures list { Reading (list_field 1) (λ list. list.items) state.old state.new R.Input input.old input.new result }
+    ensures place { OnOk result (state.new.place ≤ state.old.place + 256) }
+    ensures growth { OnOk result (state.new.growth + 2 * state.old.place ≤ state.old.growth + 2 * state.new.place) }
+    ensures grown { IfOk result (λ list. HasCounted state.old state.new 0 (length list.items)) }
 {
-    let count = read_byte(input, front)?;
-    take_bytes(alloc, u64::from(count), input, front)
+    let count = read_byte(input, state)?;
+    take_bytes(alloc, u64::from(count), input, state)
 }
 
 /// Reads a list of two-byte numbers, after a two-byte number with its length.
 fn read_numbers<R: Input>(
     alloc: Global,
     input: &mut R,
-    front: &mut Front,
+    state: &mut ReaderState,
 ) -> Result<Vec<u16>, ReadFault>
-    requires place { front.old.place + 131072 < 2 ^ 62 }
-    requires paid { front.old.growth ≤ 2 * front.old.place + 2 ^ 15 }
-    ensures list { Reading (list_field 2) (λ list. list.items) front.old front.new R.Input input.old input.new result }
-    ensures place { OnOk result (front.new.place ≤ front.old.place + 131072) }
-    ensures growth { OnOk result (front.new.growth + 2 * front.old.place ≤ front.old.growth + 2 * front.new.place) }
-    ensures grown { IfOk result (λ list. HasCounted front.old front.new 0 (length list.items)) }
+    requires place { state.old.place + 131072 < 2 ^ 62 }
+    requires growth_bound { state.old.growth ≤ 2 * state.old.place + 2 ^ 15 }
+    ensures list { Reading (list_field 2) (λ list. list.items) state.old state.new R.Input input.old input.new result }
+    ensures place { OnOk result (state.new.place ≤ state.old.place + 131072) }
+    ensures growth { OnOk result (state.new.growth + 2 * state.old.place ≤ state.old.growth + 2 * state.new.place) }
+    ensures grown { IfOk result (λ list. HasCounted state.old state.new 0 (length list.items)) }
 {
-    let count = read_number(input, front)?;
-    take_numbers(alloc, u64::from(count), input, front)
+    let count = read_number(input, state)?;
+    take_numbers(alloc, u64::from(count), input, state)
 }

@@ -11,11 +11,11 @@ ghost use Rattle.szg_file.specs.Streaming.{Accepted, wanted_of};
 
 use crate::fault::ReadFault;
 use crate::reading::dropping::{PlacedSub, pass_subs};
-use crate::reading::front::Front;
 use crate::reading::parts::Parts;
 use crate::reading::read_ending;
 use crate::reading::read_front::{FrontRead, read_front};
 use crate::reading::sink::ValueSink;
+use crate::reading::state::ReaderState;
 use crate::table::Map;
 use std::alloc::Global;
 use szg_io::Input;
@@ -39,16 +39,16 @@ pub(crate) fn read_outline<R: Input, W, K: ValueSink<W>>(
     kind: Kind,
     buffer: &mut Vec<u8>,
     input: &mut R,
-    front: &mut Front,
+    state: &mut ReaderState,
     sink: &mut K,
     out: &mut W,
 ) -> Result<Outline, ReadFault>
-    requires place { front.old.place ≡ 0 }
-    requires growth { front.old.growth ≡ 0 }
+    requires place { state.old.place ≡ 0 }
+    requires growth { state.old.growth ≡ 0 }
     requires first { R.moved input.old ≡ [] }
-    ensures outline { Reading (file material.now kind) (outlined material.now kind (R.moved input.new)) front.old front.new R.Input input.old input.new result }
-    ensures place { OnOk result (front.new.place < 2 ^ 57) }
-    ensures memory { IsErrOf result ReadFault.Memory → Lacking (file material.now kind) front.old R.Input input.old input.new }
+    ensures outline { Reading (file material.now kind) (outlined material.now kind (R.moved input.new)) state.old state.new R.Input input.old input.new result }
+    ensures place { OnOk result (state.new.place < 2 ^ 57) }
+    ensures memory { IsErrOf result ReadFault.Memory → Lacking (file material.now kind) state.old R.Input input.old input.new }
     ensures slots { IfOk result (λ o. o.parts.slots.items ≡ slots material.now kind (map part_of o.parts.bytes.items)) }
     ensures fits { IfOk result (λ o. AllByRecursion (Fits (length (R.moved input.new)) (length buffer.new.items)) o.subs.items) }
     ensures accepted { IfOk result (λ o. Accepted K.accepts (wanted_of (K.wanted sink.old) (outlined material.now kind (R.moved input.new) o)) sink.old out.old sink.new out.new) }
@@ -58,9 +58,9 @@ pub(crate) fn read_outline<R: Input, W, K: ValueSink<W>>(
         parts,
         maps,
         measured,
-    } = read_front(alloc, material, kind, input, front)?;
-    let subs = pass_subs(alloc, kind, measured, buffer, input, front, sink, out)?;
-    let last = read_ending(alloc, input, front)?;
+    } = read_front(alloc, material, kind, input, state)?;
+    let subs = pass_subs(alloc, kind, measured, buffer, input, state, sink, out)?;
+    let last = read_ending(alloc, input, state)?;
     Ok(Outline {
         byte4,
         parts,

@@ -12,7 +12,7 @@ ghost use Rattle.szg_file.specs.Grown.{part_length};
 
 use crate::begun::Slot;
 use crate::fault::{ReadFault, Reason};
-use crate::reading::front::{Front, append, grow};
+use crate::reading::state::{ReaderState, append, grow};
 use crate::reading::taking::take_field;
 use crate::table::PartBytes;
 use arrayvec::ArrayVec;
@@ -122,18 +122,18 @@ pub(crate) fn part_sizes(
 }
 
 /// Returns a copy of bytes that were already read.
-fn copied(alloc: Global, bytes: &[u8], front: &mut Front) -> Result<Vec<u8>, ReadFault>
+fn copied(alloc: Global, bytes: &[u8], state: &mut ReaderState) -> Result<Vec<u8>, ReadFault>
     requires few { length bytes.now ≤ 8 }
-    requires place { front.old.place < 2 ^ 61 }
-    requires paid { front.old.growth ≤ 2 * front.old.place + 2 ^ 15 }
+    requires place { state.old.place < 2 ^ 61 }
+    requires growth_bound { state.old.growth ≤ 2 * state.old.place + 2 ^ 15 }
     ensures bytes { IfOk result (λ list. list.items ≡ bytes.now) }
-    ensures growth { OnOk result (front.new.growth ≡ front.old.growth + length bytes.now) }
-    ensures place { OnOk result (front.new.place ≡ front.old.place) }
-    ensures fill { OnOk result (front.new.fill.items ≡ front.old.fill.items) }
+    ensures growth { OnOk result (state.new.growth ≡ state.old.growth + length bytes.now) }
+    ensures place { OnOk result (state.new.place ≡ state.old.place) }
+    ensures fill { OnOk result (state.new.fill.items ≡ state.old.fill.items) }
     ensures memory { OnErr result (result ≡ Err ReadFault.Memory) }
 {
     let mut list = Vec::new(alloc);
-    grow(&mut list, bytes.len(), front)?;
+    grow(&mut list, bytes.len(), state)?;
     list.extend_from_slice(bytes)?;
     Ok(list)
 }
@@ -145,31 +145,31 @@ fn read_part<R: Input>(
     kind: Kind,
     part: u8,
     input: &mut R,
-    front: &mut Front,
+    state: &mut ReaderState,
 ) -> Result<(PartBytes, SideSizes), ReadFault>
     requires part { IsPart material.now part }
-    requires place { front.old.place < 2 ^ 60 }
-    requires paid { front.old.growth ≤ 2 * front.old.place + 2 ^ 14 }
-    ensures part { Reading (part_field material.now kind) (λ read. part_of read.0) front.old front.new R.Input input.old input.new result }
+    requires place { state.old.place < 2 ^ 60 }
+    requires growth_bound { state.old.growth ≤ 2 * state.old.place + 2 ^ 14 }
+    ensures part { Reading (part_field material.now kind) (λ read. part_of read.0) state.old state.new R.Input input.old input.new result }
     ensures slots { IfOk result (λ read. part_slots material.now (side_numbers material.now kind) part (part_of read.0) ≡ slots_with part read.1.first read.1.second) }
     ensures fits { IfOk result (λ read. (read.1.first < 2 ^ 33) × IfSome read.1.second (λ second. second < 2 ^ 33)) }
-    ensures place { OnOk result (front.new.place ≤ front.old.place + 8) }
-    ensures growth { OnOk result (front.new.growth + front.old.place ≡ front.old.growth + front.new.place) }
-    ensures grown { IfOk result (λ read. HasCounted front.old front.new 0 (part_length (part_of read.0))) }
+    ensures place { OnOk result (state.new.place ≤ state.old.place + 8) }
+    ensures growth { OnOk result (state.new.growth + state.old.place ≡ state.old.growth + state.new.place) }
+    ensures grown { IfOk result (λ read. HasCounted state.old state.new 0 (part_length (part_of read.0))) }
 {
-    let place = front.place;
+    let place = state.place;
     let orders = order_count(material);
     let size = orders + material.men().len();
-    let mut piece = [0; 8];
-    take_field(input, front, &mut piece[..size])?;
-    let order = &piece[..orders];
-    let men = &piece[orders..size];
+    let mut chunk = [0; 8];
+    take_field(input, state, &mut chunk[..size])?;
+    let order = &chunk[..orders];
+    let men = &chunk[orders..size];
     let sizes = match part_sizes(material, kind, part, place, order, men) {
         Ok(sizes) => sizes,
         Err((place, reason)) => return Err(ReadFault::Refused { place, reason }),
     };
-    let order = copied(alloc, order, front)?;
-    let men = copied(alloc, men, front)?;
+    let order = copied(alloc, order, state)?;
+    let men = copied(alloc, men, state)?;
     Ok((PartBytes { order, men }, sizes))
 }
 
@@ -211,24 +211,24 @@ pub fn read_parts<R: Input>(
     material: &Material,
     kind: Kind,
     input: &mut R,
-    front: &mut Front,
+    state: &mut ReaderState,
 ) -> Result<Parts, ReadFault>
-    requires place { front.old.place < 2 ^ 59 }
-    requires paid { front.old.growth ≤ 2 * front.old.place }
-    ensures parts { Reading (each (λ _. part_field material.now kind) (part_numbers material.now)) (λ parts. map part_of parts.bytes.items) front.old front.new R.Input input.old input.new result }
+    requires place { state.old.place < 2 ^ 59 }
+    requires growth_bound { state.old.growth ≤ 2 * state.old.place }
+    ensures parts { Reading (each (λ _. part_field material.now kind) (part_numbers material.now)) (λ parts. map part_of parts.bytes.items) state.old state.new R.Input input.old input.new result }
     ensures slots { IfOk result (λ parts. parts.slots.items ≡ slots material.now kind (map part_of parts.bytes.items)) }
     ensures few { IfOk result (λ parts. length parts.slots.items ≤ 8) }
-    ensures place { OnOk result (front.new.place ≤ front.old.place + 32) }
-    ensures growth { OnOk result (front.new.growth + 2 * front.old.place ≤ front.old.growth + 2 * front.new.place + 4) }
-    ensures grown { IfOk result (λ parts. HasCounted front.old front.new 0 (length parts.bytes.items + parts_lengths parts.bytes.items)) }
+    ensures place { OnOk result (state.new.place ≤ state.old.place + 32) }
+    ensures growth { OnOk result (state.new.growth + 2 * state.old.place ≤ state.old.growth + 2 * state.new.place + 4) }
+    ensures grown { IfOk result (λ parts. HasCounted state.old state.new 0 (length parts.bytes.items + parts_lengths parts.bytes.items)) }
 {
     let mut parts = Parts {
         bytes: Vec::new(alloc),
         slots: ArrayVec::new(),
     };
     'parts: for part in 0..part_count(material) {
-        let (bytes, sizes) = read_part(alloc, material, kind, part, input, front)?;
-        append(&mut parts.bytes, bytes, front)?;
+        let (bytes, sizes) = read_part(alloc, material, kind, part, input, state)?;
+        append(&mut parts.bytes, bytes, state)?;
         push_slots(&mut parts.slots, part, sizes);
     }
     Ok(parts)

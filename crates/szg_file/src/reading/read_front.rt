@@ -10,9 +10,9 @@ ghost use Rattle.szg_file.specs.Values.{slotted};
 
 use crate::begun::Measured;
 use crate::fault::ReadFault;
-use crate::reading::front::Front;
 use crate::reading::index::read_lengths;
 use crate::reading::parts::Parts;
+use crate::reading::state::ReaderState;
 use crate::reading::{Opening, read_opening};
 use crate::table::Map;
 use std::alloc::Global;
@@ -34,25 +34,25 @@ pub(crate) fn read_front<R: Input>(
     material: &Material,
     kind: Kind,
     input: &mut R,
-    front: &mut Front,
+    state: &mut ReaderState,
 ) -> Result<FrontRead, ReadFault>
-    requires place { front.old.place ≡ 0 }
-    requires growth { front.old.growth ≡ 0 }
-    ensures front { Reading (front_field material.now kind) front_read front.old front.new R.Input input.old input.new result }
+    requires place { state.old.place ≡ 0 }
+    requires growth { state.old.growth ≡ 0 }
+    ensures front { Reading (front_field material.now kind) front_read state.old state.new R.Input input.old input.new result }
     ensures slots { IfOk result (λ f. f.parts.slots.items ≡ slots material.now kind (map part_of f.parts.bytes.items)) }
     ensures slotted { IfOk result (λ f. (subs : List Subtable) → length subs ≡ length f.measured.items → slotted (map (λ measured. measured.slot) f.measured.items) subs ≡ slotted (slots material.now kind (map part_of f.parts.bytes.items)) subs) }
     ensures few { IfOk result (λ f. length f.measured.items ≤ 8) }
-    ensures place { OnOk result (front.new.place < 2 ^ 42) }
-    ensures growth { OnOk result (front.new.growth ≤ 2 * front.new.place + 36) }
-    ensures grown { IfOk result (λ f. HasCounted front.old front.new 0 (front_lengths f)) }
+    ensures place { OnOk result (state.new.place < 2 ^ 42) }
+    ensures growth { OnOk result (state.new.growth ≤ 2 * state.new.place + 36) }
+    ensures grown { IfOk result (λ f. HasCounted state.old state.new 0 (front_lengths f)) }
 {
     let Opening {
         byte4,
         parts,
         heads,
         maps,
-    } = read_opening(alloc, material, kind, input, front)?;
-    let measured = read_lengths(alloc, heads, input, front)?;
+    } = read_opening(alloc, material, kind, input, state)?;
+    let measured = read_lengths(alloc, heads, input, state)?;
     Ok(FrontRead {
         byte4,
         parts,

@@ -4,9 +4,9 @@ ghost use Rattle.szg_io.specs.Device.{HasFailed};
 ghost use Rattle.szg_file.specs.Streaming.{IsScanned};
 
 use crate::fault::ReadFault;
-use crate::reading::front::Front;
 use crate::reading::outline::{Outline, read_outline};
 use crate::reading::sink::ValueSink;
+use crate::reading::state::ReaderState;
 use crate::table_index::{TableIndex, index_of_placed};
 use std::alloc::Global;
 use szg_io::Input;
@@ -43,7 +43,7 @@ pub fn scan<R: Input, W, K: ValueSink<W>>(
     ensures may_fail { IsErrOf result ReadFault.Device → IsTrue (R.may_fail input.old) }
     ensures quiet { (IsErrOf result ReadFault.Device → ⊥) → R.failures input.new ≡ R.failures input.old }
 {
-    let mut front = Front::new(alloc);
+    let mut state = ReaderState::new(alloc);
     let mut block = Vec::new(alloc);
     let Outline {
         byte4: _,
@@ -52,11 +52,11 @@ pub fn scan<R: Input, W, K: ValueSink<W>>(
         maps,
         last,
     } = read_outline(
-        alloc, &material, kind, &mut block, input, &mut front, sink, out,
+        alloc, &material, kind, &mut block, input, &mut state, sink, out,
     )?;
     Ok(Scanned {
         index: index_of_placed(material, kind, parts, &subs, maps),
         last,
-        length: front.place,
+        length: state.place,
     })
 }

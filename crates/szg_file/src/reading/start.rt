@@ -7,7 +7,7 @@ ghost use Rattle.szg_file.specs.Grown.{HasCounted};
 
 use crate::fault::{ReadFault, Reason};
 use crate::flags::has_bit;
-use crate::reading::front::Front;
+use crate::reading::state::ReaderState;
 use crate::reading::taking::{read_byte, take_field};
 use szg_io::Input;
 use szg_values::{Kind, Material};
@@ -45,23 +45,23 @@ pub(crate) fn read_start<R: Input>(
     material: &Material,
     kind: Kind,
     input: &mut R,
-    front: &mut Front,
+    state: &mut ReaderState,
 ) -> Result<u8, ReadFault>
-    requires place { front.old.place ≡ 0 }
-    ensures start { Reading (start_field material.now kind) (λ byte. byte) front.old front.new R.Input input.old input.new result }
-    ensures place { OnOk result (front.new.place ≡ 5) }
-    ensures growth { OnOk result (front.new.growth ≡ front.old.growth) }
-    ensures grown { OnOk result (HasCounted front.old front.new 0 0) }
+    requires place { state.old.place ≡ 0 }
+    ensures start { Reading (start_field material.now kind) (λ byte. byte) state.old state.new R.Input input.old input.new result }
+    ensures place { OnOk result (state.new.place ≡ 5) }
+    ensures growth { OnOk result (state.new.growth ≡ state.old.growth) }
+    ensures grown { OnOk result (HasCounted state.old state.new 0 0) }
 {
-    let mut piece = [0; 4];
-    take_field(input, front, &mut piece)?;
-    if piece != magic(kind) {
+    let mut chunk = [0; 4];
+    take_field(input, state, &mut chunk)?;
+    if chunk != magic(kind) {
         return Err(ReadFault::Refused {
             place: 0,
             reason: Reason::Magic,
         });
     }
-    let byte = read_byte(input, front)?;
+    let byte = read_byte(input, state)?;
     if !splits_as(material, kind, byte) {
         return Err(ReadFault::Refused {
             place: 4,

@@ -16,8 +16,8 @@ use crate::begun::Slot;
 use crate::fault::ReadFault;
 use crate::lookup::constant_value;
 use crate::reading::dropping::pass_block;
-use crate::reading::front::Front;
 use crate::reading::sink::ValueSink;
+use crate::reading::state::ReaderState;
 use crate::typed::code_fits;
 use std::alloc::Global;
 use szg_block::{Sub, decode_block};
@@ -69,18 +69,18 @@ fn stream_blocks<R: Input, W, K: ValueSink<W>>(
     sub: &Sub,
     size: u64,
     input: &mut R,
-    front: &mut Front,
+    state: &mut ReaderState,
     sink: &mut K,
     out: &mut W,
 ) -> Result<(), ReadFault>
-    requires place { front.old.place < 2 ^ 61 }
+    requires place { state.old.place < 2 ^ 61 }
     requires room { IfSome (layout_of sub.now) (λ layout. length buffer.old ≡ 2 ^ layout.block_bits) }
     requires short { length buffer.old ≤ 2 ^ 18 }
     requires shaped { IsShapedHead sub.now size }
-    ensures blocks { IfSome (layout_of sub.now) (λ layout. Reading (blocks_from layout size 0 layout.blocks) (λ _. since (R.moved input.old) (R.moved input.new)) front.old front.new R.Input input.old input.new result) }
-    ensures count { IfSome (layout_of sub.now) (λ layout. OnOk result (front.new.place ≡ front.old.place + layout.blocks * 2 ^ layout.block_bits)) }
-    ensures place { OnOk result (front.new.place ≤ front.old.place + 2 ^ 50) }
-    ensures growth { OnOk result (front.new.growth ≡ front.old.growth) }
+    ensures blocks { IfSome (layout_of sub.now) (λ layout. Reading (blocks_from layout size 0 layout.blocks) (λ _. since (R.moved input.old) (R.moved input.new)) state.old state.new R.Input input.old input.new result) }
+    ensures count { IfSome (layout_of sub.now) (λ layout. OnOk result (state.new.place ≡ state.old.place + layout.blocks * 2 ^ layout.block_bits)) }
+    ensures place { OnOk result (state.new.place ≤ state.old.place + 2 ^ 50) }
+    ensures growth { OnOk result (state.new.growth ≡ state.old.growth) }
     ensures accepted { IfSome (layout_of sub.now) (λ layout. OnOk result (Accepted K.accepts (values_if wanted (joined_values layout (since (R.moved input.old) (R.moved input.new)) size)) sink.old out.old sink.new out.new)) }
     ensures wanted { K.wanted sink.new ≡ K.wanted sink.old }
 {
@@ -96,7 +96,7 @@ fn stream_blocks<R: Input, W, K: ValueSink<W>>(
     code_fits(code);
     let mut before = 0;
     'each_block: for n in 0..*blocks {
-        pass_block(buffer, sub, size, n, before, input, front)?;
+        pass_block(buffer, sub, size, n, before, input, state)?;
         put_block(wanted, values, sub, size, n, before, buffer, sink, out)?;
         before += lengths[n as usize] as u64 + 1;
     }
@@ -111,18 +111,18 @@ pub(crate) fn pass_blocks_to<R: Input, W, K: ValueSink<W>>(
     sub: &Sub,
     slot: Slot,
     input: &mut R,
-    front: &mut Front,
+    state: &mut ReaderState,
     sink: &mut K,
     out: &mut W,
 ) -> Result<(), ReadFault>
-    requires place { front.old.place < 2 ^ 61 }
+    requires place { state.old.place < 2 ^ 61 }
     requires room { IfSome (layout_of sub.now) (λ layout. length buffer.old ≡ 2 ^ layout.block_bits) }
     requires short { length buffer.old ≤ 2 ^ 18 }
     requires shaped { IsShapedHead sub.now slot.size }
-    ensures blocks { IfSome (layout_of sub.now) (λ layout. Reading (blocks_from layout slot.size 0 layout.blocks) (λ _. since (R.moved input.old) (R.moved input.new)) front.old front.new R.Input input.old input.new result) }
-    ensures count { IfSome (layout_of sub.now) (λ layout. OnOk result (front.new.place ≡ front.old.place + layout.blocks * 2 ^ layout.block_bits)) }
-    ensures place { OnOk result (front.new.place ≤ front.old.place + 2 ^ 50) }
-    ensures growth { OnOk result (front.new.growth ≡ front.old.growth) }
+    ensures blocks { IfSome (layout_of sub.now) (λ layout. Reading (blocks_from layout slot.size 0 layout.blocks) (λ _. since (R.moved input.old) (R.moved input.new)) state.old state.new R.Input input.old input.new result) }
+    ensures count { IfSome (layout_of sub.now) (λ layout. OnOk result (state.new.place ≡ state.old.place + layout.blocks * 2 ^ layout.block_bits)) }
+    ensures place { OnOk result (state.new.place ≤ state.old.place + 2 ^ 50) }
+    ensures growth { OnOk result (state.new.growth ≡ state.old.growth) }
     ensures accepted { IfSome (layout_of sub.now) (λ layout. OnOk result (Accepted K.accepts (values_if (K.wanted sink.old slot.part slot.side) (joined_values layout (since (R.moved input.old) (R.moved input.new)) slot.size)) sink.old out.old sink.new out.new)) }
     ensures wanted { K.wanted sink.new ≡ K.wanted sink.old }
 {
@@ -136,7 +136,7 @@ pub(crate) fn pass_blocks_to<R: Input, W, K: ValueSink<W>>(
         sub,
         size,
         input,
-        front,
+        state,
         sink,
         out,
     )

@@ -8,93 +8,93 @@ ghost use Rattle.szg_file.specs.Reading.{Reading};
 ghost use Rattle.szg_file.specs.Grown.{HasCounted};
 
 use crate::fault::{ReadFault, Reason};
-use crate::reading::front::{Front, grow};
+use crate::reading::state::{ReaderState, grow};
 use byteorder::{ByteOrder, LittleEndian};
 use std::alloc::Global;
 use std::mem;
 use szg_block::Entry;
 use szg_io::{Input, take_whole};
 
-/// Reads a field into `piece`, which it fills.
+/// Reads a field into `chunk`, which it fills.
 pub(crate) fn take_field<R: Input>(
     input: &mut R,
-    front: &mut Front,
-    piece: &mut [u8],
+    state: &mut ReaderState,
+    chunk: &mut [u8],
 ) -> Result<(), ReadFault>
-    requires { front.old.place + length piece.old < 2 ^ 64 }
-    ensures field { Reading (field (length piece.new) means) (λ _. piece.new) front.old front.new R.Input input.old input.new result }
-    ensures place { OnOk result (front.new.place ≡ front.old.place + length piece.new) }
-    ensures growth { OnOk result (front.new.growth ≡ front.old.growth) }
-    ensures grown { OnOk result (HasCounted front.old front.new 0 0) }
+    requires { state.old.place + length chunk.old < 2 ^ 64 }
+    ensures field { Reading (field (length chunk.new) means) (λ _. chunk.new) state.old state.new R.Input input.old input.new result }
+    ensures place { OnOk result (state.new.place ≡ state.old.place + length chunk.new) }
+    ensures growth { OnOk result (state.new.growth ≡ state.old.growth) }
+    ensures grown { OnOk result (HasCounted state.old state.new 0 0) }
     ensures memory { IsErrOf result ReadFault.Memory → ⊥ }
 {
-    let Ok(got) = take_whole(input, piece) else {
+    let Ok(got) = take_whole(input, chunk) else {
         return Err(ReadFault::Device);
     };
-    if got < piece.len() {
-        let place = front.place + got as u64;
+    if got < chunk.len() {
+        let place = state.place + got as u64;
         return Err(ReadFault::Refused {
             place,
             reason: Reason::Truncated,
         });
     }
-    front.place += got as u64;
+    state.place += got as u64;
     Ok(())
 }
 
 /// Reads a byte.
-pub(crate) fn read_byte<R: Input>(input: &mut R, front: &mut Front) -> Result<u8, ReadFault>
-    requires { front.old.place < 2 ^ 62 }
-    ensures byte { Reading (number_field 1) (λ byte. byte) front.old front.new R.Input input.old input.new result }
-    ensures place { OnOk result (front.new.place ≡ front.old.place + 1) }
-    ensures growth { OnOk result (front.new.growth ≡ front.old.growth) }
-    ensures grown { OnOk result (HasCounted front.old front.new 0 0) }
+pub(crate) fn read_byte<R: Input>(input: &mut R, state: &mut ReaderState) -> Result<u8, ReadFault>
+    requires { state.old.place < 2 ^ 62 }
+    ensures byte { Reading (number_field 1) (λ byte. byte) state.old state.new R.Input input.old input.new result }
+    ensures place { OnOk result (state.new.place ≡ state.old.place + 1) }
+    ensures growth { OnOk result (state.new.growth ≡ state.old.growth) }
+    ensures grown { OnOk result (HasCounted state.old state.new 0 0) }
 {
-    let mut piece = [0; 1];
-    take_field(input, front, &mut piece)?;
-    Ok(piece[0])
+    let mut chunk = [0; 1];
+    take_field(input, state, &mut chunk)?;
+    Ok(chunk[0])
 }
 
 /// Reads a two-byte number.
-pub fn read_number<R: Input>(input: &mut R, front: &mut Front) -> Result<u16, ReadFault>
-    requires { front.old.place < 2 ^ 62 }
-    ensures number { Reading (number_field 2) (λ number. number) front.old front.new R.Input input.old input.new result }
-    ensures place { OnOk result (front.new.place ≡ front.old.place + 2) }
-    ensures growth { OnOk result (front.new.growth ≡ front.old.growth) }
-    ensures grown { OnOk result (HasCounted front.old front.new 0 0) }
+pub fn read_number<R: Input>(input: &mut R, state: &mut ReaderState) -> Result<u16, ReadFault>
+    requires { state.old.place < 2 ^ 62 }
+    ensures number { Reading (number_field 2) (λ number. number) state.old state.new R.Input input.old input.new result }
+    ensures place { OnOk result (state.new.place ≡ state.old.place + 2) }
+    ensures growth { OnOk result (state.new.growth ≡ state.old.growth) }
+    ensures grown { OnOk result (HasCounted state.old state.new 0 0) }
 {
-    let mut piece = [0; 2];
-    take_field(input, front, &mut piece)?;
-    Ok(LittleEndian::read_u16(&piece))
+    let mut chunk = [0; 2];
+    take_field(input, state, &mut chunk)?;
+    Ok(LittleEndian::read_u16(&chunk))
 }
 
 /// The greatest number of bytes that are read into a list at once. Lists may be 65,536 items ahead of the bytes
 /// read; this is half of that, and the rest is for items that few bytes account for.
-const PIECE: u64 = 32768;
+const CHUNK: u64 = 32768;
 
 /// Reads `size` bytes, at most 32,768, and appends them to a list.
-fn take_piece<R: Input>(
+fn take_chunk<R: Input>(
     list: &mut Vec<u8>,
     size: usize,
     input: &mut R,
-    front: &mut Front,
+    state: &mut ReaderState,
 ) -> Result<(), ReadFault>
     requires most { size ≤ 32768 }
-    requires place { front.old.place + size < 2 ^ 62 }
-    requires paid { front.old.growth ≤ 2 * front.old.place + 2 ^ 15 }
-    ensures field { Reading (field size means) (λ _. drop (length list.old.items) list.new.items) front.old front.new R.Input input.old input.new result }
+    requires place { state.old.place + size < 2 ^ 62 }
+    requires growth_bound { state.old.growth ≤ 2 * state.old.place + 2 ^ 15 }
+    ensures field { Reading (field size means) (λ _. drop (length list.old.items) list.new.items) state.old state.new R.Input input.old input.new result }
     ensures kept { OnOk result (take (length list.old.items) list.new.items ≡ list.old.items) }
     ensures longer { OnOk result (length list.new.items ≡ length list.old.items + size) }
-    ensures place { OnOk result (front.new.place ≡ front.old.place + size) }
-    ensures growth { OnOk result (front.new.growth ≡ front.old.growth + size) }
-    ensures grown { OnOk result (HasCounted front.old front.new (length list.old.items) (length list.new.items)) }
+    ensures place { OnOk result (state.new.place ≡ state.old.place + size) }
+    ensures growth { OnOk result (state.new.growth ≡ state.old.growth + size) }
+    ensures grown { OnOk result (HasCounted state.old state.new (length list.old.items) (length list.new.items)) }
 {
-    grow(list, size, front)?;
+    grow(list, size, state)?;
     let at = list.len();
     if list.resize(at + size, 0).is_err() {
         return Err(ReadFault::Memory);
     }
-    take_field(input, front, &mut list[at..])?;
+    take_field(input, state, &mut list[at..])?;
     Ok(())
 }
 
@@ -103,18 +103,18 @@ pub(crate) fn take_bytes<R: Input>(
     alloc: Global,
     count: u64,
     input: &mut R,
-    front: &mut Front,
+    state: &mut ReaderState,
 ) -> Result<Vec<u8>, ReadFault>
-    requires place { front.old.place + count < 2 ^ 62 }
-    requires paid { front.old.growth ≤ 2 * front.old.place + 2 ^ 15 }
-    ensures field { Reading (field count means) (λ list. list.items) front.old front.new R.Input input.old input.new result }
+    requires place { state.old.place + count < 2 ^ 62 }
+    requires growth_bound { state.old.growth ≤ 2 * state.old.place + 2 ^ 15 }
+    ensures field { Reading (field count means) (λ list. list.items) state.old state.new R.Input input.old input.new result }
     ensures count { IfOk result (λ list. length list.items ≡ count) }
-    ensures place { OnOk result (front.new.place ≡ front.old.place + count) }
-    ensures growth { OnOk result (front.new.growth ≡ front.old.growth + count) }
-    ensures grown { IfOk result (λ list. HasCounted front.old front.new 0 (length list.items)) }
+    ensures place { OnOk result (state.new.place ≡ state.old.place + count) }
+    ensures growth { OnOk result (state.new.growth ≡ state.old.growth + count) }
+    ensures grown { IfOk result (λ list. HasCounted state.old state.new 0 (length list.items)) }
 {
     let mut list = Vec::new(alloc);
-    take_more(&mut list, count, input, front)?;
+    take_more(&mut list, count, input, state)?;
     Ok(list)
 }
 
@@ -123,21 +123,21 @@ pub(crate) fn take_more<R: Input>(
     list: &mut Vec<u8>,
     count: u64,
     input: &mut R,
-    front: &mut Front,
+    state: &mut ReaderState,
 ) -> Result<(), ReadFault>
-    requires place { front.old.place + count < 2 ^ 62 }
-    requires paid { front.old.growth ≤ 2 * front.old.place + 2 ^ 15 }
-    ensures field { Reading (field count means) (λ _. drop (length list.old.items) list.new.items) front.old front.new R.Input input.old input.new result }
+    requires place { state.old.place + count < 2 ^ 62 }
+    requires growth_bound { state.old.growth ≤ 2 * state.old.place + 2 ^ 15 }
+    ensures field { Reading (field count means) (λ _. drop (length list.old.items) list.new.items) state.old state.new R.Input input.old input.new result }
     ensures kept { OnOk result (take (length list.old.items) list.new.items ≡ list.old.items) }
     ensures longer { OnOk result (length list.new.items ≡ length list.old.items + count) }
-    ensures place { OnOk result (front.new.place ≡ front.old.place + count) }
-    ensures growth { OnOk result (front.new.growth ≡ front.old.growth + count) }
-    ensures grown { OnOk result (HasCounted front.old front.new (length list.old.items) (length list.new.items)) }
+    ensures place { OnOk result (state.new.place ≡ state.old.place + count) }
+    ensures growth { OnOk result (state.new.growth ≡ state.old.growth + count) }
+    ensures grown { OnOk result (HasCounted state.old state.new (length list.old.items) (length list.new.items)) }
 {
     let mut left = count;
-    'pieces: while left > 0 {
-        let size = left.min(PIECE);
-        take_piece(list, size as usize, input, front)?;
+    'chunks: while left > 0 {
+        let size = left.min(CHUNK);
+        take_chunk(list, size as usize, input, state)?;
         left -= size;
     }
     Ok(())
@@ -148,25 +148,25 @@ pub(crate) fn take_spare<R: Input>(
     alloc: Global,
     count: u8,
     input: &mut R,
-    front: &mut Front,
+    state: &mut ReaderState,
 ) -> Result<(), ReadFault>
     requires count { count < 64 }
-    requires place { front.old.place < 2 ^ 62 }
-    requires paid { front.old.growth ≤ 2 * front.old.place + 2 ^ 15 }
-    ensures fill { Reading (spare_field count) (λ _. tt) front.old front.new R.Input input.old input.new result }
-    ensures place { OnOk result (front.new.place ≡ front.old.place + count) }
-    ensures growth { OnOk result (front.new.growth ≡ front.old.growth + count) }
-    ensures grown { OnOk result (HasCounted front.old front.new 0 0) }
+    requires place { state.old.place < 2 ^ 62 }
+    requires growth_bound { state.old.growth ≤ 2 * state.old.place + 2 ^ 15 }
+    ensures fill { Reading (spare_field count) (λ _. tt) state.old state.new R.Input input.old input.new result }
+    ensures place { OnOk result (state.new.place ≡ state.old.place + count) }
+    ensures growth { OnOk result (state.new.growth ≡ state.old.growth + count) }
+    ensures grown { OnOk result (HasCounted state.old state.new 0 0) }
 {
     let size = count as usize;
-    let mut piece = [0; 64];
-    take_field(input, front, &mut piece[..size])?;
-    let mut fill = mem::replace(&mut front.fill, Vec::new(alloc));
-    grow(&mut fill, size, front)?;
-    if fill.extend_from_slice(&piece[..size]).is_err() {
+    let mut chunk = [0; 64];
+    take_field(input, state, &mut chunk[..size])?;
+    let mut fill = mem::replace(&mut state.fill, Vec::new(alloc));
+    grow(&mut fill, size, state)?;
+    if fill.extend_from_slice(&chunk[..size]).is_err() {
         return Err(ReadFault::Memory);
     }
-    front.fill = fill;
+    state.fill = fill;
     Ok(())
 }
 
@@ -175,37 +175,41 @@ pub(crate) fn take_fill<R: Input>(
     alloc: Global,
     unit: u8,
     input: &mut R,
-    front: &mut Front,
+    state: &mut ReaderState,
 ) -> Result<(), ReadFault>
     requires some { 0 < unit }
     requires most { unit ≤ 64 }
-    requires place { front.old.place < 2 ^ 62 }
-    requires paid { front.old.growth ≤ 2 * front.old.place + 2 ^ 15 }
-    ensures fill { Reading (filled_to unit) (λ _. tt) front.old front.new R.Input input.old input.new result }
-    ensures place { OnOk result (front.new.place < front.old.place + 64) }
-    ensures growth { OnOk result (front.new.growth + front.old.place ≡ front.old.growth + front.new.place) }
-    ensures grown { OnOk result (HasCounted front.old front.new 0 0) }
+    requires place { state.old.place < 2 ^ 62 }
+    requires growth_bound { state.old.growth ≤ 2 * state.old.place + 2 ^ 15 }
+    ensures fill { Reading (filled_to unit) (λ _. tt) state.old state.new R.Input input.old input.new result }
+    ensures place { OnOk result (state.new.place < state.old.place + 64) }
+    ensures growth { OnOk result (state.new.growth + state.old.place ≡ state.old.growth + state.new.place) }
+    ensures grown { OnOk result (HasCounted state.old state.new 0 0) }
 {
-    let rest = (front.place % unit as u64) as u8;
-    take_spare(alloc, (unit - rest) % unit, input, front)
+    let rest = (state.place % unit as u64) as u8;
+    take_spare(alloc, (unit - rest) % unit, input, state)
 }
 
 /// Decodes rows of two bytes each, and appends the numbers to a list.
-fn append_numbers(rows: &[u8], list: &mut Vec<u16>, front: &mut Front) -> Result<(), ReadFault>
+fn append_numbers(
+    rows: &[u8],
+    list: &mut Vec<u16>,
+    state: &mut ReaderState,
+) -> Result<(), ReadFault>
     requires even { length rows.now % 2 ≡ 0 }
     requires most { length rows.now ≤ 32768 }
-    requires paid { front.old.growth ≤ 2 * front.old.place + 2 ^ 15 }
-    requires place { front.old.place < 2 ^ 62 }
+    requires growth_bound { state.old.growth ≤ 2 * state.old.place + 2 ^ 15 }
+    requires place { state.old.place < 2 ^ 62 }
     ensures kept { OnOk result (take (length list.old.items) list.new.items ≡ list.old.items) }
     ensures numbers { OnOk result (drop (length list.old.items) list.new.items ≡ map number_of (items 2 (length rows.now / 2) rows.now)) }
     ensures longer { OnOk result (length list.new.items ≡ length list.old.items + length rows.now / 2) }
-    ensures growth { OnOk result (front.new.growth ≡ front.old.growth + length rows.now / 2) }
-    ensures place { OnOk result (front.new.place ≡ front.old.place) }
-    ensures fill { OnOk result (front.new.fill.items ≡ front.old.fill.items) }
+    ensures growth { OnOk result (state.new.growth ≡ state.old.growth + length rows.now / 2) }
+    ensures place { OnOk result (state.new.place ≡ state.old.place) }
+    ensures fill { OnOk result (state.new.fill.items ≡ state.old.fill.items) }
     ensures memory { OnErr result (result ≡ Err ReadFault.Memory) }
 {
     let count = rows.len() / 2;
-    grow(list, count, front)?;
+    grow(list, count, state)?;
     let at = list.len();
     if list.resize(at + count, 0).is_err() {
         return Err(ReadFault::Memory);
@@ -219,22 +223,22 @@ pub(crate) fn take_numbers<R: Input>(
     alloc: Global,
     count: u64,
     input: &mut R,
-    front: &mut Front,
+    state: &mut ReaderState,
 ) -> Result<Vec<u16>, ReadFault>
-    requires place { front.old.place + 2 * count < 2 ^ 62 }
-    requires paid { front.old.growth ≤ 2 * front.old.place + 2 ^ 15 }
-    ensures rows { Reading (numbers_field count) (λ list. list.items) front.old front.new R.Input input.old input.new result }
-    ensures place { OnOk result (front.new.place ≡ front.old.place + 2 * count) }
+    requires place { state.old.place + 2 * count < 2 ^ 62 }
+    requires growth_bound { state.old.growth ≤ 2 * state.old.place + 2 ^ 15 }
+    ensures rows { Reading (numbers_field count) (λ list. list.items) state.old state.new R.Input input.old input.new result }
+    ensures place { OnOk result (state.new.place ≡ state.old.place + 2 * count) }
     ensures count { IfOk result (λ list. length list.items ≡ count) }
-    ensures growth { OnOk result (front.new.growth ≡ front.old.growth + 3 * count) }
-    ensures grown { IfOk result (λ list. HasCounted front.old front.new 0 (length list.items)) }
+    ensures growth { OnOk result (state.new.growth ≡ state.old.growth + 3 * count) }
+    ensures grown { IfOk result (λ list. HasCounted state.old state.new 0 (length list.items)) }
 {
     let mut list = Vec::new(alloc);
     let mut left = count;
-    'pieces: while left > 0 {
-        let size = left.min(PIECE / 2);
-        let rows = take_bytes(alloc, 2 * size, input, front)?;
-        append_numbers(rows.as_slice(), &mut list, front)?;
+    'chunks: while left > 0 {
+        let size = left.min(CHUNK / 2);
+        let rows = take_bytes(alloc, 2 * size, input, state)?;
+        append_numbers(rows.as_slice(), &mut list, state)?;
         left -= size;
     }
     Ok(list)
@@ -245,21 +249,21 @@ pub(crate) fn take_entries<R: Input>(
     alloc: Global,
     count: u64,
     input: &mut R,
-    front: &mut Front,
+    state: &mut ReaderState,
 ) -> Result<Vec<[u8; 3]>, ReadFault>
     requires few { count < 2 ^ 16 }
-    requires place { front.old.place + 3 * count < 2 ^ 62 }
-    requires paid { front.old.growth ≤ 2 * front.old.place + 2 ^ 15 }
-    ensures rows { Reading (rows_field 3 count) (λ list. list.items) front.old front.new R.Input input.old input.new result }
-    ensures place { OnOk result (front.new.place ≡ front.old.place + 3 * count) }
+    requires place { state.old.place + 3 * count < 2 ^ 62 }
+    requires growth_bound { state.old.growth ≤ 2 * state.old.place + 2 ^ 15 }
+    ensures rows { Reading (rows_field 3 count) (λ list. list.items) state.old state.new R.Input input.old input.new result }
+    ensures place { OnOk result (state.new.place ≡ state.old.place + 3 * count) }
     ensures count { IfOk result (λ list. length list.items ≡ count) }
-    ensures growth { OnOk result (front.new.growth ≡ front.old.growth + 4 * count) }
-    ensures grown { IfOk result (λ list. HasCounted front.old front.new 0 (2 * length list.items)) }
+    ensures growth { OnOk result (state.new.growth ≡ state.old.growth + 4 * count) }
+    ensures grown { IfOk result (λ list. HasCounted state.old state.new 0 (2 * length list.items)) }
 {
-    let bytes = take_bytes(alloc, 3 * count, input, front)?;
+    let bytes = take_bytes(alloc, 3 * count, input, state)?;
     let rows = bytes.as_slice();
     let mut list = Vec::new(alloc);
-    grow(&mut list, count as usize, front)?;
+    grow(&mut list, count as usize, state)?;
     'rows: for i in 0..rows.len() / 3 {
         let row = &rows[3 * i..];
         list.push([row[0], row[1], row[2]])?;
@@ -268,19 +272,23 @@ pub(crate) fn take_entries<R: Input>(
 }
 
 /// Decodes rows of six bytes each, and appends the entries to a list.
-fn append_sparse(rows: &[u8], list: &mut Vec<Entry>, front: &mut Front) -> Result<(), ReadFault>
+fn append_sparse(
+    rows: &[u8],
+    list: &mut Vec<Entry>,
+    state: &mut ReaderState,
+) -> Result<(), ReadFault>
     requires most { length rows.now ≤ 32768 }
-    requires paid { front.old.growth ≤ 2 * front.old.place + 2 ^ 15 }
-    requires place { front.old.place < 2 ^ 62 }
+    requires growth_bound { state.old.growth ≤ 2 * state.old.place + 2 ^ 15 }
+    requires place { state.old.place < 2 ^ 62 }
     ensures items { OnOk result (map sparse_of list.new.items ≡ map sparse_of list.old.items ++ map entry_of_bytes (items 6 (length rows.now / 6) rows.now)) }
     ensures longer { OnOk result (length list.new.items ≡ length list.old.items + length rows.now / 6) }
-    ensures growth { OnOk result (front.new.growth ≡ front.old.growth + length rows.now / 6) }
-    ensures place { OnOk result (front.new.place ≡ front.old.place) }
-    ensures fill { OnOk result (front.new.fill.items ≡ front.old.fill.items) }
+    ensures growth { OnOk result (state.new.growth ≡ state.old.growth + length rows.now / 6) }
+    ensures place { OnOk result (state.new.place ≡ state.old.place) }
+    ensures fill { OnOk result (state.new.fill.items ≡ state.old.fill.items) }
     ensures memory { OnErr result (result ≡ Err ReadFault.Memory) }
 {
     let count = rows.len() / 6;
-    grow(list, count, front)?;
+    grow(list, count, state)?;
     'rows: for i in 0..count {
         let row = &rows[6 * i..];
         let block = LittleEndian::read_u32(row);
@@ -295,22 +303,22 @@ pub(crate) fn take_sparse<R: Input>(
     alloc: Global,
     count: u64,
     input: &mut R,
-    front: &mut Front,
+    state: &mut ReaderState,
 ) -> Result<Vec<Entry>, ReadFault>
-    requires place { front.old.place + 6 * count < 2 ^ 62 }
-    requires paid { front.old.growth ≤ 2 * front.old.place + 2 ^ 15 }
-    ensures rows { Reading (sparse_rows count) (λ list. map sparse_of list.items) front.old front.new R.Input input.old input.new result }
-    ensures place { OnOk result (front.new.place ≡ front.old.place + 6 * count) }
+    requires place { state.old.place + 6 * count < 2 ^ 62 }
+    requires growth_bound { state.old.growth ≤ 2 * state.old.place + 2 ^ 15 }
+    ensures rows { Reading (sparse_rows count) (λ list. map sparse_of list.items) state.old state.new R.Input input.old input.new result }
+    ensures place { OnOk result (state.new.place ≡ state.old.place + 6 * count) }
     ensures count { IfOk result (λ list. length list.items ≡ count) }
-    ensures growth { OnOk result (front.new.growth ≡ front.old.growth + 7 * count) }
-    ensures grown { IfOk result (λ list. HasCounted front.old front.new 0 (length list.items)) }
+    ensures growth { OnOk result (state.new.growth ≡ state.old.growth + 7 * count) }
+    ensures grown { IfOk result (λ list. HasCounted state.old state.new 0 (length list.items)) }
 {
     let mut list = Vec::new(alloc);
     let mut left = count;
-    'pieces: while left > 0 {
-        let size = left.min(PIECE / 6);
-        let rows = take_bytes(alloc, 6 * size, input, front)?;
-        append_sparse(rows.as_slice(), &mut list, front)?;
+    'chunks: while left > 0 {
+        let size = left.min(CHUNK / 6);
+        let rows = take_bytes(alloc, 6 * size, input, state)?;
+        append_sparse(rows.as_slice(), &mut list, state)?;
         left -= size;
     }
     Ok(list)

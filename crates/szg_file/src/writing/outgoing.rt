@@ -38,17 +38,17 @@ impl<'a> Outgoing<'a> {
     }
 }
 
-/// Writes `piece` after the first `out` bytes; returns the new total. Errors: the total when the device failed.
-fn give<W: Output>(piece: &[u8], output: &mut W, out: u64) -> Result<u64, WriteFault>
-    ensures ok { IfOk result (λ now. now ≡ (out + length piece.now) % 2 ^ 64) }
-    ensures given { OnOk result (Gives W.Output output.old output.new piece.now 0) }
+/// Writes `chunk` after the first `out` bytes; returns the new total. Errors: the total when the device failed.
+fn give<W: Output>(chunk: &[u8], output: &mut W, out: u64) -> Result<u64, WriteFault>
+    ensures ok { IfOk result (λ now. now ≡ (out + length chunk.now) % 2 ^ 64) }
+    ensures given { OnOk result (Gives W.Output output.old output.new chunk.now 0) }
     ensures quiet { OnOk result (W.failures output.new ≡ W.failures output.old) }
-    ensures fault { IfErr result (λ fault. (n : ℕ) × (n < length piece.now) × (fault.out ≡ (out + n) % 2 ^ 64)
-        × Gives W.Output output.old output.new (take n piece.now) 1) }
+    ensures fault { IfErr result (λ fault. (n : ℕ) × (n < length chunk.now) × (fault.out ≡ (out + n) % 2 ^ 64)
+        × Gives W.Output output.old output.new (take n chunk.now) 1) }
     ensures failed { OnErr result (HasFailed (W.failures output.old) (W.failures output.new) (W.interrupted output.new)) }
 {
-    match give_whole(output, piece) {
-        Ok(()) => Ok(out.wrapping_add(piece.len() as u64)),
+    match give_whole(output, chunk) {
+        Ok(()) => Ok(out.wrapping_add(chunk.len() as u64)),
         Err(n) => Err(WriteFault {
             out: out.wrapping_add(n as u64),
         }),
@@ -65,31 +65,31 @@ pub fn flush<W: Output>(output: &mut W, outgoing: &mut Outgoing) -> Result<(), W
     Ok(())
 }
 
-/// Buffers `piece` if there is room for it; returns whether there was.
-fn hold(piece: &[u8], outgoing: &mut Outgoing) -> bool
-    ensures room { IsTrue result ↔ (length outgoing.old.held.items + length piece.now ≤ 4096) }
+/// Buffers `chunk` if there is room for it; returns whether there was.
+fn hold(chunk: &[u8], outgoing: &mut Outgoing) -> bool
+    ensures room { IsTrue result ↔ (length outgoing.old.held.items + length chunk.now ≤ 4096) }
     ensures out { outgoing.new.out ≡ outgoing.old.out }
     ensures fill { outgoing.new.fill.now ≡ outgoing.old.fill.now }
-    ensures held { result ≡ true → outgoing.new.held.items ≡ outgoing.old.held.items ++ piece.now }
+    ensures held { result ≡ true → outgoing.new.held.items ≡ outgoing.old.held.items ++ chunk.now }
     ensures kept { result ≡ false → outgoing.new.held.items ≡ outgoing.old.held.items }
 {
-    outgoing.held.try_extend_from_slice(piece).is_ok()
+    outgoing.held.try_extend_from_slice(chunk).is_ok()
 }
 
-/// Buffers `piece`, or writes it if it is longer than the buffer.
+/// Buffers `chunk`, or writes it if it is longer than the buffer.
 pub fn put<W: Output>(
-    piece: &[u8],
+    chunk: &[u8],
     output: &mut W,
     outgoing: &mut Outgoing,
 ) -> Result<(), WriteFault>
-    ensures { Writing (written piece.now ∷ []) outgoing.old outgoing.new W.Output output.old output.new result }
+    ensures { Writing (written chunk.now ∷ []) outgoing.old outgoing.new W.Output output.old output.new result }
 {
-    if hold(piece, outgoing) {
+    if hold(chunk, outgoing) {
         return Ok(());
     }
     flush(output, outgoing)?;
-    if !hold(piece, outgoing) {
-        outgoing.out = give(piece, output, outgoing.out)?;
+    if !hold(chunk, outgoing) {
+        outgoing.out = give(chunk, output, outgoing.out)?;
     }
     Ok(())
 }

@@ -24,7 +24,7 @@ index_of_placed-index-requires-clause-is_valid g c =
     let old : Forward = c.new-input.result in
     let new : Forward = c.read_outline.new.input in
     let h = c.in-Ok.ensures.outline in
-    let is_valid = outlined_index m k o c.new-front.result c.read_outline.new.front old.place new.place old.content new.content h.bytes c.new-front.ensures.place c.new-front.ensures.fill h.answer.0 in
+    let is_valid = outlined_index m k o c.new-state.result c.read_outline.new.state old.place new.place old.content new.content h.bytes c.new-state.ensures.place c.new-state.ensures.fill h.answer.0 in
     subst (λ (l : List PlacedSub). IsIndex (index_with m k (map part_of o.parts.bytes.items) (map (λ held. flags_of (subtable_of held.sub)) l) (map (option_map map_of) o.maps.items))) (sym c.deref.ensures.value) is_valid
 
 pub invariant_of-result : goal.invariant_of-result
@@ -39,12 +39,12 @@ invariant_of-result g c =
     let same = ap (g.S.Source.content) c.new.ensures.source ∙ c.into_source.ensures.content in
     let is : c.index_of_placed-index.result ≡ outline_index m k o =
     c.index_of_placed-index.ensures ∙ ap (λ (l : List PlacedSub). index_with m k (map part_of o.parts.bytes.items) (map (λ held. flags_of (subtable_of held.sub)) l) (map (option_map map_of) o.maps.items)) c.deref.ensures.value in
-    let opened = opened_by m k o c.new-front.result c.read_outline.new.front old.place new.place old.content new.content h.bytes content _ (buffer_len_of c.new.result)
-    c.new-front.ensures.place c.new-front.ensures.fill c.new-input.ensures.place h.taken.bytes_moved h.answer.0 c.in-Ok.ensures.slots c.in-Ok.ensures.fits same c.new.ensures.buffer_len in (
+    let opened = opened_by m k o c.new-state.result c.read_outline.new.state old.place new.place old.content new.content h.bytes content _ (buffer_len_of c.new.result)
+    c.new-state.ensures.place c.new-state.ensures.fill c.new-input.ensures.place h.taken.bytes_moved h.answer.0 c.in-Ok.ensures.slots c.in-Ok.ensures.fits same c.new.ensures.buffer_len in (
       subst (λ (x : Index). IsOpened x.material x.kind content (buffer_len_of c.new.result) (slots_in x) o.subs.items) (sym is)
           (subst (λ (l : List Slot). IsOpened m k content (buffer_len_of c.new.result) l o.subs.items) c.in-Ok.ensures.slots opened),
-      outlined_by m k o c.new-front.result c.read_outline.new.front old.place new.place old.content new.content h.bytes content c.index_of_placed-index.result
-          c.new-front.ensures.place c.new-front.ensures.fill c.new-input.ensures.place h.taken.bytes_moved h.answer.0 same is,
+      outlined_by m k o c.new-state.result c.read_outline.new.state old.place new.place old.content new.content h.bytes content c.index_of_placed-index.result
+          c.new-state.ensures.place c.new-state.ensures.fill c.new-input.ensures.place h.taken.bytes_moved h.answer.0 same is,
     )
 
 pub returns-in-Ok-clause-table : goal.returns-in-Ok-clause-table
@@ -54,8 +54,8 @@ returns-in-Ok-clause-table g c =
     let content : List ℕ = g.S.Source.content c.args.source in
     let h = c.in-Ok.ensures.outline in
     let kept : new.content ≡ old.content = forward_kept old.place new.place old.content new.content h.bytes c.new-input.ensures.place h.taken.bytes_gone h.taken.bytes_moved in
-    let opened = opened_by c.args.material c.args.kind c.in-Ok.field-0 c.new-front.result c.read_outline.new.front old.place new.place old.content new.content h.bytes
-    content _ _ c.new-front.ensures.place c.new-front.ensures.fill c.new-input.ensures.place h.taken.bytes_moved h.answer.0 c.in-Ok.ensures.slots c.in-Ok.ensures.fits
+    let opened = opened_by c.args.material c.args.kind c.in-Ok.field-0 c.new-state.result c.read_outline.new.state old.place new.place old.content new.content h.bytes
+    content _ _ c.new-state.ensures.place c.new-state.ensures.fill c.new-input.ensures.place h.taken.bytes_moved h.answer.0 c.in-Ok.ensures.slots c.in-Ok.ensures.fits
     (sym c.new-input.ensures.content ∙ sym kept) refl in
     subst (λ (o : Option Contents). IsSome o) (sym opened.there) refl
 
@@ -67,4 +67,4 @@ returns-clause-refused g c =
     let content : List ℕ = g.S.Source.content c.args.source in
     let stated : Some (drop old.place old.content) ≡ Some content = ap (λ (n : ℕ). Some (drop n old.content)) c.new-input.ensures.place ∙ ap (λ (z : List ℕ). Some z) c.new-input.ensures.content in
     subst (λ (e : OpenFault). IsOpenRefusal (verdict (file m k) 0 content) e) (sym c.open_fault.ensures)
-    (refusal_follows (file m k) _ c.in-Err.fault content c.new-front.ensures.place stated c.in-Err.ensures.outline)
+    (refusal_follows (file m k) _ c.in-Err.fault content c.new-state.ensures.place stated c.in-Err.ensures.outline)

@@ -20,11 +20,11 @@ returns-in_err-take_fill-clause-memory g c =
 pub returns-in_err-take_field : goal.returns-in_err-take_field
 returns-in_err-take_field g c =
     let p = err_from_is_err_and c.from_residual-in_err-take_field.result c.from_residual-in_err-take_field.ensures.1 in
-    let sized : length c.take_field.new.piece ≡ 16 = search rules in
+    let sized : length c.take_field.new.chunk ≡ 16 = search rules in
     rw (p.1, p.2)
     (record {
       ending = reads_then (filled_to 64) (λ _. of_size 16) (λ _. tt) (λ last. last) c.in_ok-take_fill.field-0 c.in_ok-take_fill.ensures.fill
-          (reads_stopped_as (of_size (length c.take_field.new.piece)) (of_size 16) (λ _. c.take_field.new.piece) (λ last. last) c.in_err-take_field.field-0.0 (ap of_size sized)
+          (reads_stopped_as (of_size (length c.take_field.new.chunk)) (of_size 16) (λ _. c.take_field.new.chunk) (λ last. last) c.in_err-take_field.field-0.0 (ap of_size sized)
           c.in_err-take_field.ensures.field);
       place = tt;
       grown = tt;
@@ -33,10 +33,10 @@ returns-in_err-take_field g c =
 
 pub returns : goal.returns
 returns g c =
-    let sized : length c.take_field.new.piece ≡ 16 = search rules in
+    let sized : length c.take_field.new.chunk ≡ 16 = search rules in
     record {
       ending = reads_then (filled_to 64) (λ _. of_size 16) (λ _. tt) (λ last. last) c.in_ok-take_fill.field-0 c.in_ok-take_fill.ensures.fill
-          (reads_as (of_size (length c.take_field.new.piece)) (of_size 16) (λ _. c.take_field.new.piece) (λ last. last) c.in_ok-take_field.field-0 c.take_field.new.piece
+          (reads_as (of_size (length c.take_field.new.chunk)) (of_size 16) (λ _. c.take_field.new.chunk) (λ last. last) c.in_ok-take_field.field-0 c.take_field.new.chunk
           (ap of_size sized) refl refl refl c.in_ok-take_field.ensures.field);
       place = omega (arith, sized, c.in_ok-take_fill.ensures.place, c.in_ok-take_field.ensures.place);
       grown = omega (arith, c.in_ok-take_fill.ensures.grown, c.in_ok-take_field.ensures.grown);

@@ -7,9 +7,9 @@ use Rattle.szg_file.proofs.reading.blocks.read_blocks.Given as goal
 
 abbrev pub invariant-subtables : goal.invariant-subtables
 invariant-subtables g l = record {
-  read : Reading (each blocks_field (take (length l.yielded) l.fn.list.items)) (λ subs. map subtable_of subs.items) l.fn.front l.front g.R.Input l.fn.input l.input (Ok l.subs);
+  read : Reading (each blocks_field (take (length l.yielded) l.fn.list.items)) (λ subs. map subtable_of subs.items) l.fn.state l.state g.R.Input l.fn.input l.input (Ok l.subs);
   count : length l.subs.items ≡ length l.yielded;
-  place : l.front.place ≤ l.fn.front.place + length l.yielded * 2 ^ 51;
-  growth : l.front.growth + 2 * l.fn.front.place ≤ l.fn.front.growth + 2 * l.front.place + length l.yielded;
-  grown : HasCounted l.fn.front l.front (begun_lengths l.yielded) (length l.subs.items + subs_lengths l.subs.items);
+  place : l.state.place ≤ l.fn.state.place + length l.yielded * 2 ^ 51;
+  growth : l.state.growth + 2 * l.fn.state.place ≤ l.fn.state.growth + 2 * l.state.place + length l.yielded;
+  grown : HasCounted l.fn.state l.state (begun_lengths l.yielded) (length l.subs.items + subs_lengths l.subs.items);
 }

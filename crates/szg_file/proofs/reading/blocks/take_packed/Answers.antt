@@ -34,8 +34,8 @@ pub returns-in_default-check_block_from-clause-blocks : goal.returns-in_default-
 returns-in_default-check_block_from-clause-blocks g c =
     let old = c.each_block.packed.items in
     let new = c.take_more.new.list.items in
-    let piece = tail_of old new c.deref.result.now c.len-at.result (search rules) c.deref.ensures.value in
-    let lacks = rw piece at c.in_default-check_block_from.ensures.fault.1 in
+    let chunk = tail_of old new c.deref.result.now c.len-at.result (search rules) c.deref.ensures.value in
+    let lacks = rw chunk at c.in_default-check_block_from.ensures.fault.1 in
     let read = rw c.in-Pairs.is at c.each_block.invariant.read in
     let block = rw c.in-Pairs.is at (reads_block_refused (layout_of c.args.sub.now) c.args.size c.each_block.n c.block_bytes.result (drop (length old) new) (λ (_ : Unit {0}). []) c.block_bytes.ensures.bytes lacks c.in_ok-take_more.ensures.field) in
     rw c.in-Pairs.is (reads_blocks_stopped _ c.args.size c.each_block.n (λ (packed : Vec ℕ Global). packed.items) _ (λ (packed : Vec ℕ Global). packed.items) c.each_block.packed _ c.each_block-test.true read block)
@@ -45,8 +45,8 @@ each_block-preserved g c =
     let old = c.each_block.packed.items in
     let new = c.take_more.new.list.items in
     let code : IfSome (layout_of c.args.sub.now) (λ layout. IsCode layout.code) = rw c.in-Pairs.is c.code_fits.ensures in
-    let piece = tail_of old new c.deref.result.now c.len-at.result (search rules) c.deref.ensures.value in
-    let spells = rw piece at c.in-Ok.ensures.ok in
+    let chunk = tail_of old new c.deref.result.now c.len-at.result (search rules) c.deref.ensures.value in
+    let spells = rw chunk at c.in-Ok.ensures.ok in
     let read = rw c.in-Pairs.is at c.each_block.invariant.read in
     let block = rw c.in-Pairs.is at (reads_block (layout_of c.args.sub.now) c.args.size c.each_block.n c.block_bytes.result (drop (length old) new) code c.block_bytes.ensures.bytes spells c.in_ok-take_more.ensures.field) in
     let shaped = rw c.in-Pairs.is at c.requires.shaped in

@@ -45,7 +45,7 @@ returns-clause-blocks g c =
     let some : layout_of c.measured.inside.sub ≡ None → ⊥ = λ e. let t = c.is_constant.ensures.1 e in cc in
     let at = valid_at (filled_to 64) _ _ c.requires.at c.in_ok-take_fill.ensures.fill in
     let read = rw c.expect.ensures.same at c.in_ok-pass_blocks_to.ensures.blocks in
-    let ends = ends_at c.measured.inside.slot.size c.measured.inside.sub c.take_fill.new.front c.pass_blocks_to.new.front g.R.Input c.take_fill.new.input c.pass_blocks_to.new.input at c.in_ok-pass_blocks_to.ensures.count read in
+    let ends = ends_at c.measured.inside.slot.size c.measured.inside.sub c.take_fill.new.state c.pass_blocks_to.new.state g.R.Input c.take_fill.new.input c.pass_blocks_to.new.input at c.in_ok-pass_blocks_to.ensures.count read in
     rw (← c.measured.view_is) (reads_placed c.measured.inside.slot c.measured.inside.slot.size c.measured.inside.sub refl some at ends c.in_ok-take_fill.ensures.fill read)
 
 pub returns-clause-fits : goal.returns-clause-fits
@@ -53,7 +53,7 @@ returns-clause-fits g c =
     let some : layout_of c.measured.inside.sub ≡ None → ⊥ = λ e. let t = c.is_constant.ensures.1 e in cc in
     let at = valid_at (filled_to 64) _ _ c.requires.at c.in_ok-take_fill.ensures.fill in
     let read = rw c.expect.ensures.same at c.in_ok-pass_blocks_to.ensures.blocks in
-    let ends = ends_at c.measured.inside.slot.size c.measured.inside.sub c.take_fill.new.front c.pass_blocks_to.new.front g.R.Input c.take_fill.new.input c.pass_blocks_to.new.input at c.in_ok-pass_blocks_to.ensures.count read in
+    let ends = ends_at c.measured.inside.slot.size c.measured.inside.sub c.take_fill.new.state c.pass_blocks_to.new.state g.R.Input c.take_fill.new.input c.pass_blocks_to.new.input at c.in_ok-pass_blocks_to.ensures.count read in
     let long = still_long c.make_room.new.buffer.len c.buffer-1.given c.make_room.new.buffer.items (sym c.make_room.new.buffer.ok.0) in
-    placed_fits _ _ c.take_fill.new.front.place c.measured.inside.sub some ends
+    placed_fits _ _ c.take_fill.new.state.place c.measured.inside.sub some ends
     (roomy_for c.measured.inside.sub c.block_bytes-size.result _ c.block_bytes-size.ensures.bytes (omega (arith, long, c.in_ok-make_room.ensures.room)))

@@ -23,7 +23,7 @@ returns-in-Err-clause-dictionary g c =
     let count = c.in_ok-count.count in
     let entries = c.in_ok-entries.entries in
     let fault = c.entries_refusal.result in
-    let stated = entries_stated c.read_number.new.front.place entries.items c.in-Err.fault fault c.in-Err.ensures.refused c.entries_refusal.ensures.refused c.entries_refusal.ensures.memory in
+    let stated = entries_stated c.read_number.new.state.place entries.items c.in-Err.fault fault c.in-Err.ensures.refused c.entries_refusal.ensures.refused c.entries_refusal.ensures.memory in
     reads_then (number_field 2) after_count (λ n. n) (λ d. d) count c.in_ok-count.ensures.number
     (reads_stopped (entries_field count) (after_entries count) (λ d. d) (λ d. d) fault
     (entries_stopped count (λ list. list.items) (λ d. d) entries fault stated (rw c.from.ensures at c.in_ok-entries.ensures.rows)))

@@ -6,10 +6,10 @@ use Rattle.szg_file.proofs.reading.heads.read_heads.Given as goal
 
 abbrev pub invariant-slots : goal.invariant-slots
 invariant-slots g l = record {
-  read : Reading (each head_field (take l.slot-index l.slots)) (λ list. map (λ (b : Begun). b.subtable) list.items) l.fn.front l.front g.R.Input l.fn.input l.input (Ok l.list);
+  read : Reading (each head_field (take l.slot-index l.slots)) (λ list. map (λ (b : Begun). b.subtable) list.items) l.fn.state l.state g.R.Input l.fn.input l.input (Ok l.list);
   made : l.list.items ≡ begun (take l.slot-index l.slots) (map (λ (b : Begun). b.subtable) l.list.items);
   count : length l.list.items ≡ l.slot-index;
-  place : l.front.place ≤ l.fn.front.place + l.slot-index * 2 ^ 18;
-  growth : l.front.growth + 2 * l.fn.front.place ≤ l.fn.front.growth + 2 * l.front.place + l.slot-index;
-  grown : HasCounted l.fn.front l.front 0 (length l.list.items + begun_lengths l.list.items);
+  place : l.state.place ≤ l.fn.state.place + l.slot-index * 2 ^ 18;
+  growth : l.state.growth + 2 * l.fn.state.place ≤ l.fn.state.growth + 2 * l.state.place + l.slot-index;
+  grown : HasCounted l.fn.state l.state 0 (length l.list.items + begun_lengths l.list.items);
 }

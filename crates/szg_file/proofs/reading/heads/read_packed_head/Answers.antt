@@ -49,13 +49,13 @@ returns-in_err-lowest-clause-head g c =
     (reads_then sizes_field (after_sizes flags bb sb) (λ z. z) subtable_of sizes c.in_ok-sizes.ensures.sizes
     (reads_stopped (lowest_list sizes.min sizes.max) (after_lowest flags bb sb sizes) (λ k. k.lowest) subtable_of c.in_err-lowest.field-0.0 c.in_err-lowest.ensures.lowest))))
 
-pub read_dictionary-requires-clause-paid : goal.read_dictionary-requires-clause-paid
-read_dictionary-requires-clause-paid g c =
+pub read_dictionary-requires-clause-growth_bound : goal.read_dictionary-requires-clause-growth_bound
+read_dictionary-requires-clause-growth_bound g c =
     let a = c.in_ok-block_bits.ensures in
     let b = c.in_ok-span_bits.ensures in
     let d = c.in_ok-sizes.ensures in
     let e = c.in_ok-lowest.ensures in
-    omega (arith, a.place, b.place, d.place, e.place, a.growth, b.growth, d.growth, e.growth, c.requires.paid)
+    omega (arith, a.place, b.place, d.place, e.place, a.growth, b.growth, d.growth, e.growth, c.requires.growth_bound)
 
 pub read_dictionary-requires-clause-place : goal.read_dictionary-requires-clause-place
 read_dictionary-requires-clause-place g c =

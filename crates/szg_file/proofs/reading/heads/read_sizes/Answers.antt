@@ -8,6 +8,6 @@ unfit min max h = grind (arith, nat_tests)
 
 pub returns-then-sizes-eq0-clause-sizes : goal.returns-then-sizes-eq0-clause-sizes
 returns-then-sizes-eq0-clause-sizes g c =
-    let piece : List ℕ = c.take_field.new.piece in
-    let no = unfit (get_or piece 6 0) (get_or piece 5 0) c.then-sizes-eq0.either in
+    let chunk : List ℕ = c.take_field.new.chunk in
+    let no = unfit (get_or chunk 6 0) (get_or chunk 5 0) c.then-sizes-eq0.either in
     search rules

@@ -18,7 +18,7 @@ returns-in-Some-clause-lengths g c =
     elim c.match-sub.branch [
       | in-Pairs+in_ok-lengths w ↦
           let checks = rw w.sub-is at c.in-Some.ensures.checks in
-          rw (w.input-is, w.front-is, ← c.indexed.view_is, w.in-Pairs.is)
+          rw (w.input-is, w.state-is, ← c.indexed.view_is, w.in-Pairs.is)
           (lengths_checked c.indexed.inside.slot c.indexed.inside.index c.slot.inside.size _ (map sparse_of w.in-Pairs.sparse.items) w.in-Pairs.lengths.items w.in-Pairs.packed.items (λ list. list.items) w.in_ok-lengths.field-0
           (Some (c.in-Some.place, c.in-Some.reason)) sized w.in_ok-lengths.ensures.rows checks)
       | in_default w ↦ let none = rw (w.sub-is, w.in_default.is) at c.in-Some.ensures.constant in absurd cc
@@ -30,8 +30,8 @@ returns-clause-lengths g c =
     elim c.match-sub.branch [
       | in-Pairs+in_ok-lengths w ↦
           let checks = rw (w.sub-is, c.in_default-index_refusal.is) at c.index_refusal.ensures.checks in
-          rw (w.input-is, w.front-is, w.sub-is, ← c.indexed.view_is, w.in-Pairs.is)
+          rw (w.input-is, w.state-is, w.sub-is, ← c.indexed.view_is, w.in-Pairs.is)
           (lengths_checked c.indexed.inside.slot c.indexed.inside.index c.slot.inside.size _ (map sparse_of w.in-Pairs.sparse.items) w.in-Pairs.lengths.items w.in-Pairs.packed.items (λ list. list.items) w.in_ok-lengths.field-0
           None sized w.in_ok-lengths.ensures.rows checks)
-      | in_default w ↦ rw (w.input-is, w.front-is, w.sub-is, ← c.indexed.view_is, w.in_default.is) (reads_nothing _ _ _ refl)
+      | in_default w ↦ rw (w.input-is, w.state-is, w.sub-is, ← c.indexed.view_is, w.in_default.is) (reads_nothing _ _ _ refl)
     ]

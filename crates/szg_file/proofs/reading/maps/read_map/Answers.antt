@@ -36,7 +36,7 @@ returns-in_err-lists-clause-lists g c =
     rw (p.1, p.2, wide_is c.args.begun.now.subtable flags same set large)
     (reads_then (filled_to 2) (λ _. wide_rest) (λ _. tt) (option_map map_of) tt c.in_ok-take_fill.ensures.fill
     (reads_stopped (each list_field (2 ∷ 2 ∷ 2 ∷ 2 ∷ [])) (λ lists. means (Some (wide lists))) (λ lists. map (λ list. list.items) lists) (option_map map_of) c.in_err-lists.field-0.0
-    (c.in_err-lists.ensures.lists (list_field 2) (λ alloc input left front rest result said. said.1.0))))
+    (c.in_err-lists.ensures.lists (list_field 2) (λ alloc input left state rest result said. said.1.0))))
 
 pub returns-then-has_bit-clause-lists : goal.returns-then-has_bit-clause-lists
 returns-then-has_bit-clause-lists g c =
@@ -47,7 +47,7 @@ returns-then-has_bit-clause-lists g c =
     rw (wide_is c.args.begun.now.subtable flags same set large)
     (reads_then (filled_to 2) (λ _. wide_rest) (λ _. tt) (option_map map_of) tt c.in_ok-take_fill.ensures.fill
     (reads_then (each list_field (2 ∷ 2 ∷ 2 ∷ 2 ∷ [])) (λ lists. means (Some (wide lists))) (λ lists. map (λ list. list.items) lists) (option_map map_of) c.in_ok-lists.lists
-    (c.in_ok-lists.ensures.lists (list_field 2) (λ alloc input left front rest result said. said.1.0))
+    (c.in_ok-lists.ensures.lists (list_field 2) (λ alloc input left state rest result said. said.1.0))
     (reads_nothing (means (Some (wide (map (λ list. list.items) c.in_ok-lists.lists)))) (option_map map_of) _ refl)))
 
 pub returns-in_err-lists-2-clause-lists : goal.returns-in_err-lists-2-clause-lists
@@ -59,7 +59,7 @@ returns-in_err-lists-2-clause-lists g c =
     let p = err_from_is_err_and c.from_residual-in_err-lists-2.result c.from_residual-in_err-lists-2.ensures.1 in
     rw (p.1, p.2, bytes_is c.args.begun.now.subtable flags same set small)
     (reads_stopped (each list_field (1 ∷ 1 ∷ 1 ∷ 1 ∷ [])) (λ lists. means (Some (narrow lists))) (λ lists. map (λ list. list.items) lists) (option_map map_of) c.in_err-lists-2.field-0.0
-    (c.in_err-lists-2.ensures.lists (list_field 1) (λ alloc input left front rest result said. said.1.0)))
+    (c.in_err-lists-2.ensures.lists (list_field 1) (λ alloc input left state rest result said. said.1.0)))
 
 pub returns-clause-lists : goal.returns-clause-lists
 returns-clause-lists g c =
@@ -69,5 +69,5 @@ returns-clause-lists g c =
     let small : has_bit 4 flags ≡ false = sym c.has_bit-2.ensures ∙ c.if-has_bit.false in
     rw (bytes_is c.args.begun.now.subtable flags same set small)
     (reads_then (each list_field (1 ∷ 1 ∷ 1 ∷ 1 ∷ [])) (λ lists. means (Some (narrow lists))) (λ lists. map (λ list. list.items) lists) (option_map map_of) c.in_ok-lists-2.lists
-    (c.in_ok-lists-2.ensures.lists (list_field 1) (λ alloc input left front rest result said. said.1.0))
+    (c.in_ok-lists-2.ensures.lists (list_field 1) (λ alloc input left state rest result said. said.1.0))
     (reads_nothing (means (Some (narrow (map (λ list. list.items) c.in_ok-lists-2.lists)))) (option_map map_of) _ refl))

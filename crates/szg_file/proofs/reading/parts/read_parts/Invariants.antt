@@ -10,11 +10,11 @@ use Rattle.szg_file.proofs.reading.parts.read_parts.Given as goal
 -- the parts so far, and their slots
 abbrev pub invariant-parts : goal.invariant-parts
 invariant-parts g l =
-    Reading (each (λ _. part_field l.material l.kind) (range_with_len 0 l.part)) (λ (_ : Unit {0}). map part_of l.parts.bytes.items) l.initial.front l.front
+    Reading (each (λ _. part_field l.material l.kind) (range_with_len 0 l.part)) (λ (_ : Unit {0}). map part_of l.parts.bytes.items) l.initial.state l.state
     g.R.Input l.initial.input l.input (Ok tt)
     × (l.parts.slots.items ≡ slots_from l.material (side_numbers l.material l.kind) 0 (map part_of l.parts.bytes.items))
     × (length l.parts.bytes.items ≡ l.part)
     × (length l.parts.slots.items ≤ 2 * l.part)
-    × (l.front.place ≤ l.initial.front.place + 8 * l.part)
-    × (l.front.growth + 2 * l.initial.front.place ≤ l.initial.front.growth + 2 * l.front.place + l.part)
-    × HasCounted l.initial.front l.front 0 (length l.parts.bytes.items + parts_lengths l.parts.bytes.items)
+    × (l.state.place ≤ l.initial.state.place + 8 * l.part)
+    × (l.state.growth + 2 * l.initial.state.place ≤ l.initial.state.growth + 2 * l.state.place + l.part)
+    × HasCounted l.initial.state l.state 0 (length l.parts.bytes.items + parts_lengths l.parts.bytes.items)

@@ -26,8 +26,8 @@ returns-in_err-parts-clause-scanned g c =
     let k : Kind = c.args.kind in
     let fault : ReadFault = c.in_err-parts.field-0.0 in
     let p = err_from_is_err_and c.from_residual.result c.from_residual.ensures.1 in
-    let follows = fault_follows (file m k) (outlined m k (g.R.Input.moved c.read_outline.new.input)) fault c.new-front.ensures.place c.in_err-parts.ensures.outline c.in_err-parts.ensures.memory in
-    let took = fault_took m k (outlined m k (g.R.Input.moved c.read_outline.new.input)) fault c.new-front.ensures.place c.in_err-parts.ensures.outline c.in_err-parts.ensures.memory in
+    let follows = fault_follows (file m k) (outlined m k (g.R.Input.moved c.read_outline.new.input)) fault c.new-state.ensures.place c.in_err-parts.ensures.outline c.in_err-parts.ensures.memory in
+    let took = fault_took m k (outlined m k (g.R.Input.moved c.read_outline.new.input)) fault c.new-state.ensures.place c.in_err-parts.ensures.outline c.in_err-parts.ensures.memory in
     rw (p.1, p.2)
     (record { table = tt; follows = follows; bytes = took.0; taken = took.1; took = took.2 })
 
@@ -39,7 +39,7 @@ index_of_placed-requires-clause-is_valid g c =
     let bytes : List ℕ = g.R.Input.moved c.read_outline.new.input in
     let t : Contents = outlined m k bytes o in
     let h = c.in_ok-parts.ensures.outline in
-    let w = whole_file m k t c.new-front.result c.read_outline.new.front h.bytes c.new-front.ensures.place c.new-front.ensures.fill h.answer.0 in
+    let w = whole_file m k t c.new-state.result c.read_outline.new.state h.bytes c.new-state.ensures.place c.new-state.ensures.fill h.answer.0 in
     let is_valid = subst (λ (flags : List ℕ). IsIndex (index_with m k t.parts flags t.maps)) (flags_whole bytes o.subs.items) (accepted_index t _ w.accepted) in
     subst (λ (l : List PlacedSub). IsIndex (index_with m k (map part_of o.parts.bytes.items) (map (λ held. flags_of (subtable_of held.sub)) l) (map (option_map map_of) o.maps.items))) (sym c.deref.ensures.value) is_valid
 
@@ -49,9 +49,9 @@ returns-clause-scanned g c =
     let k : Kind = c.args.kind in
     let o : Outline = c.in_ok-parts.field-0 in
     let bytes : List ℕ = g.R.Input.moved c.read_outline.new.input in
-    let t : Shown = record { contents = outlined m k bytes o; filled = c.read_outline.new.front.fill.items } in
+    let t : Shown = record { contents = outlined m k bytes o; filled = c.read_outline.new.state.fill.items } in
     let h = c.in_ok-parts.ensures.outline in
-    let w = whole_file m k t.contents c.new-front.result c.read_outline.new.front h.bytes c.new-front.ensures.place c.new-front.ensures.fill h.answer.0 in
+    let w = whole_file m k t.contents c.new-state.result c.read_outline.new.state h.bytes c.new-state.ensures.place c.new-state.ensures.fill h.answer.0 in
     let is : c.index_of_placed.result ≡ index_of t.contents =
     c.index_of_placed.ensures ∙ ap (λ (l : List PlacedSub). index_with m k (map part_of o.parts.bytes.items) (map (λ held. flags_of (subtable_of held.sub)) l) (map (option_map map_of) o.maps.items)) c.deref.ensures.value
     ∙ ap (λ (flags : List ℕ). index_with m k t.contents.parts flags t.contents.maps) (sym (flags_whole bytes o.subs.items)) in
@@ -66,6 +66,6 @@ returns-clause-scanned g c =
       };
       index_is = is;
       last_is = refl;
-      length_is = length_is c.read_outline.new.front.place c.new-front.result.place h.bytes (file_bytes t) h.answer.0.place c.new-front.ensures.place w.file_is;
+      length_is = length_is c.read_outline.new.state.place c.new-state.result.place h.bytes (file_bytes t) h.answer.0.place c.new-state.ensures.place w.file_is;
       accepted = c.in_ok-parts.ensures.accepted;
     }
