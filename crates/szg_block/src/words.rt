@@ -190,16 +190,24 @@ pub(crate) fn find_up_to(code: &Code, dict: &Dict, block: &[u8], index: u64) -> 
     ensures none { IfNone result (length (values_spelled code.now dict.now (bits block.now)) ≤ index) }
 {
     if code.is_read_word_by_word() {
-        return find_by_words(code, dict, WordReader::new(block), index);
+        return find_by_words::<false>(code, dict, WordReader::new(block), index);
     }
-    let reached = reach(code, dict, Bits::new(block), index)?;
+    if !code.has_two_words() {
+        return find_by_words::<true>(code, dict, WordReader::new(block), index);
+    }
+    let reached = reach_by::<true>(code, dict, Bits::new(block), index)?;
     Some(value_in(dict, reached.words, reached.index as u16))
 }
 
 /// Returns the value at `index` among those that the remaining bits decode to. None if they spell no more than `index`
-/// values. Decodes word by word.
+/// values. Decodes word by word, and finds a word's length as `next_word_if` does.
 #[inline(always)]
-fn find_by_words(code: &Code, dict: &Dict, left: WordReader, index: u64) -> Option<u16>
+fn find_by_words<const TABLE: bool>(
+    code: &Code,
+    dict: &Dict,
+    left: WordReader,
+    index: u64,
+) -> Option<u16>
     requires accepted { IsCode code.now }
     requires symbols { code.now.symbols ≡ length dict.now }
     ensures value { IfSome result (λ value. slice_get (values_spelled code.now dict.now left.entry.left) index ≡ Some value) }
@@ -207,7 +215,7 @@ fn find_by_words(code: &Code, dict: &Dict, left: WordReader, index: u64) -> Opti
 {
     let mut words = left;
     let mut ahead = index;
-    while let Some(symbol) = next_word_if(code, &mut words) {
+    while let Some(symbol) = next_word_if::<TABLE>(code, &mut words) {
         let count = u64::from(dict.len(symbol));
         if ahead < count {
             return Some(dict.value_at(symbol, ahead as u16));

@@ -222,20 +222,32 @@ impl Code {
         self.header.reached_index_from(&self.bases, start, window)
     }
 
-    /// `reached_index` without its table. With at most two lengths one comparison finds the index, and nothing branches on
-    /// the window. With more, the search starts from the least length and takes a step for each length above it, but what
-    /// comes next doesn't wait for a table.
+    /// `reached_index` without its table: from the least length, with a step for each length above it, the first of which is
+    /// a sum and no branch. So nothing branches on the window if words have at most two lengths.
     #[inline(always)]
-    pub(crate) fn first_reached_index(&self, window: u64) -> usize
+    fn first_reached_index(&self, window: u64) -> usize
         ensures accepted { IsCode self.now }
         ensures inside { result < length self.now.lowest }
         ensures reaches { shifted_base self.now 64 (self.now.min_length + result) ≤ window }
         ensures before { (k : ℕ) → k < result → window < shifted_base self.now 64 (self.now.min_length + k) }
     {
-        if self.header.lowest.len() <= 2 {
-            return usize::from(window < self.bases[0]);
+        let from = usize::from(window < self.bases[0]);
+        self.header.reached_index_from(&self.bases, from, window)
+    }
+
+    /// `reached_index`, by its table if `TABLE`, and else without it.
+    #[inline(always)]
+    pub(crate) fn index_by<const TABLE: bool>(&self, window: u64) -> usize
+        ensures accepted { IsCode self.now }
+        ensures inside { result < length self.now.lowest }
+        ensures reaches { shifted_base self.now 64 (self.now.min_length + result) ≤ window }
+        ensures before { (k : ℕ) → k < result → window < shifted_base self.now 64 (self.now.min_length + k) }
+    {
+        if TABLE {
+            self.reached_index(window)
+        } else {
+            self.first_reached_index(window)
         }
-        self.header.reached_index_from(&self.bases, 0, window)
     }
 
     /// Returns whether `WordReader` decodes words faster than `next_words`: at least seven of eight windows begin with a word

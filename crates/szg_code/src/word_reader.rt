@@ -102,7 +102,7 @@ pub fn next_word(code: &Code, words: &mut WordReader) -> u16
 {
     let longest = code.longest();
     let window = window_of(words.bytes, words.offset, words.window, longest);
-    let j = code.first_reached_index(window.bits);
+    let j = code.index_by::<false>(window.bits);
     let count = u64::from(code.min()) + j as u64;
     let symbol = code.symbol_there(window.bits, j);
     words.offset += count;
@@ -113,32 +113,24 @@ pub fn next_word(code: &Code, words: &mut WordReader) -> u16
     symbol
 }
 
-/// Returns the number of bits after the first `offset` bits.
-fn bits_left(bytes: &[u8], offset: u64) -> u64
-    requires fits { length bytes.now ≤ 2 ^ 60 }
-    requires inside { offset ≤ 8 * length bytes.now }
-    ensures { result + offset ≡ 8 * length bytes.now }
-{
-    8 * bytes.len() as u64 - offset
-}
-
 /// Decodes the word at the reader's offset, moves the reader past it, and returns its symbol, as `next_word` does, but for any
-/// bits. None if the remaining bits do not begin with a word.
+/// bits. None if the remaining bits do not begin with a word. A word's length is found by the code's table of first bytes if
+/// `TABLE`.
 #[inline(always)]
-pub fn next_word_if(code: &Code, words: &mut WordReader) -> Option<u16>
+pub fn next_word_if<const TABLE: bool>(code: &Code, words: &mut WordReader) -> Option<u16>
     ensures found { IfSome result (λ s. TakesWord code.now words.old words.new s) }
     ensures none { IfNone result (BeginsWithNoWord code.now words.old.left) }
 {
     let longest = code.longest();
     let window = window_of(words.bytes, words.offset, words.window, longest);
-    let j = code.first_reached_index(window.bits);
+    let j = code.index_by::<TABLE>(window.bits);
     let count = u64::from(code.min()) + j as u64;
-    let left = bits_left(words.bytes, words.offset);
-    if count > left {
+    let end = words.offset + count;
+    if end > 8 * words.bytes.len() as u64 {
         return None;
     }
     let symbol = code.symbol_in(window.bits, j)?;
-    words.offset += count;
+    words.offset = end;
     words.window = Window {
         bits: window.bits << count,
         held: window.held - longest,

@@ -7,7 +7,7 @@ use Rattle.szg_block.proofs.Joined.{slice_get-append_before, slice_get-append_af
 use Rattle.szg_block.proofs.words.find_by_words.Goals as goal
 
 pub returns-then-ahead-count-clause-value : goal.returns-then-ahead-count-clause-value
-returns-then-ahead-count-clause-value c =
+returns-then-ahead-count-clause-value g c =
     let xs : List ℕ = expansion_of c.args.dict.now c.in-Some.symbol in
     let ys : List ℕ = values_spelled c.args.code.now c.args.dict.now c.next_word_if.new.words.left in
     let e = values_spelled-taken c.args.code.now c.requires.accepted c.args.dict.now c.loop-symbol.words c.next_word_if.new.words c.in-Some.symbol c.in-Some.ensures.found in
@@ -15,7 +15,7 @@ returns-then-ahead-count-clause-value c =
     sym c.loop-symbol.invariant.same ∙ ap (λ u. slice_get u c.loop-symbol.ahead) e ∙ slice_get-append_before xs ys c.loop-symbol.ahead inside ∙ c.value_at.ensures
 
 pub loop-symbol-preserved : goal.loop-symbol-preserved
-loop-symbol-preserved c =
+loop-symbol-preserved g c =
     let xs : List ℕ = expansion_of c.args.dict.now c.in-Some.symbol in
     let ys : List ℕ = values_spelled c.args.code.now c.args.dict.now c.next_word_if.new.words.left in
     let e = values_spelled-taken c.args.code.now c.requires.accepted c.args.dict.now c.loop-symbol.words c.next_word_if.new.words c.in-Some.symbol c.in-Some.ensures.found in
@@ -29,6 +29,6 @@ loop-symbol-preserved c =
     }
 
 pub returns-clause-none : goal.returns-clause-none
-returns-clause-none c =
+returns-clause-none g c =
     let e = values_spelled-none c.args.code.now c.args.dict.now c.loop-symbol.words.left c.in_default.ensures.none in
     omega (arith, ap (λ u. length u) e, c.loop-symbol.invariant.spelled)
