@@ -222,8 +222,8 @@ impl Code {
         self.header.reached_index_from(&self.bases, start, window)
     }
 
-    /// `reached_index` without its table: from the least length, with a step for each length above it, the first of which is
-    /// a sum and no branch. So nothing branches on the window if words have at most two lengths.
+    /// `reached_index`, for windows that mostly begin with a word of the least length: for these without its table. What comes
+    /// next doesn't wait for a length that a processor predicts.
     #[inline(always)]
     fn first_reached_index(&self, window: u64) -> usize
         ensures accepted { IsCode self.now }
@@ -231,8 +231,10 @@ impl Code {
         ensures reaches { shifted_base self.now 64 (self.now.min_length + result) ≤ window }
         ensures before { (k : ℕ) → k < result → window < shifted_base self.now 64 (self.now.min_length + k) }
     {
-        let from = usize::from(window < self.bases[0]);
-        self.header.reached_index_from(&self.bases, from, window)
+        if self.bases[0] <= window {
+            return 0;
+        }
+        self.reached_index(window)
     }
 
     /// `reached_index`, by its table if `TABLE`, and else without it.
@@ -250,12 +252,10 @@ impl Code {
         }
     }
 
-    /// Returns whether `WordReader` decodes words faster than `next_words`: at least seven of eight windows begin with a word
-    /// of the least length, so that a word's length can be predicted; or words have at most two lengths, which one comparison
-    /// distinguishes, and the first two words of each byte are not stored.
+    /// Returns whether at least seven of eight windows begin with a word of the least length, so that a processor can predict
+    /// a word's length.
     pub fn is_read_word_by_word(&self) -> bool {
         self.bases[0] <= MOSTLY_REACHED
-            || (self.header.lowest.len() <= 2 && self.two_words.is_none())
     }
 
     /// Returns the number that the window's leading bits, whose number is the length at index `j`, represent as a symbol.
