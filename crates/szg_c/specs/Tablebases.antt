@@ -4,6 +4,8 @@ use Rattle.std.specs.List.{list_all}
 use Rattle.std.specs.List.Sorted.{IsNonDecreasingBy}
 use Rattle.szg_values.specs.Men.{code_of}
 use Rattle.szg_values.specs.Material.{Sides, name_of, parsed}
+use Rattle.szg_values.specs.Placement.{PlacedMan}
+use Rattle.szg_values.specs.declared.Color.{Color}
 use Rattle.szg_values.specs.declared.Man.{Man}
 use Rattle.szg_place.specs.Layout.{is_dtz}
 use Rattle.szg_game.specs.declared.Class.{Class}
@@ -12,7 +14,7 @@ use Rattle.szg_chess.specs.Moves.{legal_moves}
 use Rattle.szg_chess.specs.declared.PositionFault.{PositionFault}
 use Rattle.szg_chess.specs.declared.PositionFault.TheVariants as fault
 use Rattle.szg_probe.specs.Probing.{MayFail, all_known, probed}
-use Rattle.szg_probe.specs.Distances.{class_at, probed_distance, rank_of, ranked, signed_distance}
+use Rattle.szg_probe.specs.Distances.{MayFailByMove, MayFailBySearch, class_at, probed_distance, rank_of, ranked, signed_distance}
 use Rattle.szg_probe.specs.declared.assessments.RankedMove.{RankedMove}
 use Rattle.szg_file.specs.InPlace.{InPlace}
 use Rattle.szg_tables.specs.Mapped.{IsOpenedFrom, mapped_classes, mapped_numbers}
@@ -100,28 +102,28 @@ pub record IsMissingReported (missing : Missing) (status : ℕ) (before after : 
   pub kind : after.dtz ≡ is_dtz missing.kind
   pub block : IsBlockWritten missing.reason before after
 
--- a position of as many men or fewer misses what is reported
-abbrev pub IsLacking : List InPlace → Position → ℕ → RawMissing → RawMissing → Type 0
-IsLacking files p status before after =
-    (missing : Missing) × MayFail (IsMissing (mapped_classes files) (mapped_numbers files) missing) p × IsMissingReported missing status before after
+-- what is reported is missing for a position for which the tables may fail
+abbrev pub IsLacking : List InPlace → ((List PlacedMan → Color → Type 0) → Type 0) → ℕ → RawMissing → RawMissing → Type 0
+IsLacking files may_fail status before after =
+    (missing : Missing) × may_fail (IsMissing (mapped_classes files) (mapped_numbers files) missing) × IsMissingReported missing status before after
 
 -- ---- probes
 
 -- The class of the position by the tables, or what is missing, which else stays.
 pub record IsClassProbed (files : List InPlace) (p : Position) (status : ℕ) (class : ℤ) (before after : RawMissing) : Type 0 where
   pub done : status ≡ 0 → (k : Class) × (probed (mapped_classes files) p ≡ Some k) × (class ≡ number_of_class k)
-  pub lacking : (status ≡ 0 → ⊥) → IsLacking files p status before after
+  pub lacking : (status ≡ 0 → ⊥) → IsLacking files (λ fails. MayFail fails p) status before after
   pub stays : status ≡ 0 → after ≡ before
 
 -- The tables contradict themselves where they have no answer; else the status says what is missing.
-abbrev pub IsUnanswered : List InPlace → Type 0 → Position → ℕ → RawMissing → RawMissing → Type 0
-IsUnanswered files none p status before after = ((status ≡ CONTRADICTION) × none × (after ≡ before)) ⊎ IsLacking files p status before after
+abbrev pub IsUnanswered : List InPlace → Type 0 → ((List PlacedMan → Color → Type 0) → Type 0) → ℕ → RawMissing → RawMissing → Type 0
+IsUnanswered files none may_fail status before after = ((status ≡ CONTRADICTION) × none × (after ≡ before)) ⊎ IsLacking files may_fail status before after
 
 -- The class with the fifty-move counter and the DTZ of the position by the tables, or why there is none.
 pub record IsDistanceProbed (files : List InPlace) (counter : ℕ) (p : Position) (status : ℕ) (distance : RawDistance) (before after : RawMissing) : Type 0 where
   pub done : status ≡ 0 → (k : Class) × (plies : ℕ) × (probed_distance (mapped_classes files) (mapped_numbers files) p ≡ Some (k, plies))
       × (distance.class ≡ number_of_class (class_at counter k plies)) × (distance.dtz ≡ signed_distance k plies)
-  pub lacking : (status ≡ 0 → ⊥) → IsUnanswered files (probed_distance (mapped_classes files) (mapped_numbers files) p ≡ None) p status before after
+  pub lacking : (status ≡ 0 → ⊥) → IsUnanswered files (probed_distance (mapped_classes files) (mapped_numbers files) p ≡ None) (λ fails. MayFailBySearch fails p) status before after
   pub stays : status ≡ 0 → after ≡ before
 
 -- ---- moves
@@ -161,4 +163,4 @@ pub record IsRankedWritten (files : List InPlace) (counter : ℕ) (p : Position)
   pub done : status ≡ 0 → AreRankedIn files counter p before after count
   pub short : status ≡ RANGE → (length before < length (legal_moves p)) × (lack_after ≡ lack_before)
   pub stays : status ≡ 0 → lack_after ≡ lack_before
-  pub lacking : (status ≡ 0 → ⊥) → (status ≡ RANGE → ⊥) → IsUnanswered files (known_moves files counter p ≡ None) p status lack_before lack_after
+  pub lacking : (status ≡ 0 → ⊥) → (status ≡ RANGE → ⊥) → IsUnanswered files (known_moves files counter p ≡ None) (λ fails. MayFailByMove fails p) status lack_before lack_after

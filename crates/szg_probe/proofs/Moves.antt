@@ -1,5 +1,5 @@
 -- Loops over the legal moves.
-use Rattle.std.proofs.Common.{◌≡◌, ℕ, ◌+◌, ◌<◌, ◌≤◌, List, [], ◌∷◌, ◌++◌, length, map, max, take, get_or, refl, sym, ap, ◌∙◌, subst, Bool, true, false, arith, inl, inr, Option, Some, None, Contains}
+use Rattle.std.proofs.Common.{◌≡◌, ℕ, ◌+◌, ◌<◌, ◌≤◌, List, [], ◌∷◌, ◌++◌, length, map, max, take, get_or, refl, sym, ap, ◌∙◌, subst, Bool, true, false, arith, inl, inr, Option, Some, None}
 use Rattle.std.specs.Prelude.{◌||◌, ◌&&◌, ◌==◌, not, filter, option_and_then, option_map}
 use Rattle.std.specs.List.{list_any, list_all}
 use Rattle.std.proofs.lemmas.Bool.{cases_Bool, or_parts, or_from, ne_eqb}
@@ -12,13 +12,13 @@ use Rattle.szg_game.specs.Certified.{is_won}
 use Rattle.szg_game.specs.declared.Class.{Class}
 use Rattle.szg_game.proofs.Lists.{IsIn, in_contains, any_in, in_map}
 use Rattle.szg_chess.specs.declared.Move.{Move}
-use Rattle.szg_chess.specs.Position.{Position, IsPosition, is_on}
+use Rattle.szg_chess.specs.Position.{Position, is_on}
 use Rattle.szg_chess.specs.Moves.{after, has_no_move, is_capture, is_zeroing, legal_moves}
 use Rattle.szg_probe.specs.Probing.{StoredClasses, all_known, has_only_captures, probed}
-use Rattle.szg_probe.specs.Distances.{StoredNumbers, is_known_true, any_known, keeps_by_zeroing, has_zeroing, is_drawn, stored_distance, probed_distance, choose_some, least, greatest, chosen, offset_of, stays, distance_by, quiet_distance, move_distance, ranked, MayLack}
+use Rattle.szg_probe.specs.Distances.{StoredNumbers, is_known_true, any_known, keeps_by_zeroing, has_zeroing, is_drawn, stored_distance, distance_of, probed_distance, choose_some, least, greatest, chosen, offset_of, stays, distance_by, quiet_distance, move_distance, ranked, MayLack}
 use Rattle.szg_probe.specs.declared.distances.DistanceFault.{DistanceFault}
 use Rattle.szg_probe.specs.declared.distances.DistanceFault.TheVariants.{Tables, Contradiction}
-use Rattle.szg_probe.proofs.Search.{any_more, map_more, known_more, fault_after}
+use Rattle.szg_probe.proofs.Search.{any_more, map_more, known_more}
 
 -- ---- all moves
 
@@ -203,31 +203,25 @@ unknown_in {A} {B} f (x ∷ xs) y (inr i) e = by_first (f x) (unknown_in f xs y 
     by_first None h = refl
     by_first (Some k) h = rw h refl
 
--- another reason for a contradiction
-pub lack_by : {F : Type 0} {A B : Type 0} (explains : F → List PlacedMan → Color → Type 0) (p : Position) (fault : DistanceFault F) → (A → B) → MayLack explains A p fault → MayLack explains B p fault
-lack_by explains p (Tables fault) g h = h
-lack_by explains p Contradiction g h = g h
-
--- after a legal move
-pub lack_after : {F : Type 0} {A B : Type 0} (explains : F → List PlacedMan → Color → Type 0) (p : Position) (m : Move) (q : Position) (fault : DistanceFault F) → IsPosition p → Contains (legal_moves p) m → q ≡ after p m →
-    (A → B) → MayLack explains A q fault → MayLack explains B p fault
-lack_after explains p m q (Tables fault) position held same g h = fault_after (explains fault) p m q position held same h
-lack_after explains p m q Contradiction position held same g h = g h
-
--- at one of the legal moves
-pub lack_at : {F : Type 0} {A : Type 0} (explains : StoredClasses → StoredNumbers → F → List PlacedMan → Color → Type 0) (f : StoredClasses → StoredNumbers → Move → Option A) (a b : StoredClasses) (s t : StoredNumbers) (p : Position)
-    (items : List Move) (i : ℕ) (m : Move) (fault : DistanceFault F) → a ≡ b → s ≡ t → items ≡ legal_moves p → i < length items → m ≡ get_or items i m →
-    MayLack (explains a s) (f a s m ≡ None) p fault → MayLack (explains b t) (all_known (map (f b t) (legal_moves p)) ≡ None) p fault
-lack_at explains f a b s t p items i m fault e d is h at lack =
-    let here = subst (λ (n : StoredNumbers). MayLack (explains b n) (f b n m ≡ None) p fault) d (subst (λ (c : StoredClasses). MayLack (explains c s) (f c s m ≡ None) p fault) e lack) in
-    let held = subst (λ (ms : List Move). IsIn ms m) is (in_contains items m (i, h, sym at)) in
-    lack_by (explains b t) p fault (unknown_in (f b t) (legal_moves p) m held) here
+-- other reasons
+pub lack_by : {F : Type 0} {A B : Type 0} (f g : F → Type 0) (fault : DistanceFault F) → ((e : F) → f e → g e) → (A → B) → MayLack f A fault → MayLack g B fault
+lack_by f g (Tables fault) more none h = more fault h
+lack_by f g Contradiction more none h = none h
 
 -- with equal tables
-pub lack_over : {F A : Type 0} (explains : StoredClasses → StoredNumbers → F → List PlacedMan → Color → Type 0) (f : StoredClasses → StoredNumbers → Option A) (a b : StoredClasses) (s t : StoredNumbers) (p : Position) (fault : DistanceFault F) → a ≡ b → s ≡ t →
-    MayLack (explains a s) (f a s ≡ None) p fault → MayLack (explains b t) (f b t ≡ None) p fault
-lack_over explains f a b s t p fault e d lack =
-    subst (λ (n : StoredNumbers). MayLack (explains b n) (f b n ≡ None) p fault) d (subst (λ (c : StoredClasses). MayLack (explains c s) (f c s ≡ None) p fault) e lack)
+pub lack_over : {F A : Type 0} (fails : StoredClasses → StoredNumbers → F → Type 0) (f : StoredClasses → StoredNumbers → Option A) (a b : StoredClasses) (s t : StoredNumbers) (fault : DistanceFault F) → a ≡ b → s ≡ t →
+    MayLack (fails a s) (f a s ≡ None) fault → MayLack (fails b t) (f b t ≡ None) fault
+lack_over fails f a b s t fault e d lack =
+    subst (λ (n : StoredNumbers). MayLack (fails b n) (f b n ≡ None) fault) d (subst (λ (c : StoredClasses). MayLack (fails c s) (f c s ≡ None) fault) e lack)
+
+-- at one of the legal moves
+pub lack_at : {F : Type 0} {A : Type 0} (fails : StoredClasses → StoredNumbers → F → Type 0) (f : StoredClasses → StoredNumbers → Move → Option A) (a b : StoredClasses) (s t : StoredNumbers) (p : Position)
+    (items : List Move) (i : ℕ) (m : Move) (fault : DistanceFault F) → a ≡ b → s ≡ t → items ≡ legal_moves p → i < length items → m ≡ get_or items i m →
+    MayLack (fails a s) (f a s m ≡ None) fault → MayLack (fails b t) (all_known (map (f b t) (legal_moves p)) ≡ None) fault
+lack_at fails f a b s t p items i m fault e d is h at lack =
+    let here = lack_over fails (λ c n. f c n m) a b s t fault e d lack in
+    let held = subst (λ (ms : List Move). IsIn ms m) is (in_contains items m (i, h, sym at)) in
+    lack_by (fails b t) (fails b t) fault (λ fault h. h) (unknown_in (f b t) (legal_moves p) m held) here
 
 pub quiet_unknown : (classes : StoredClasses) (numbers : StoredNumbers) (p : Position) (k j : Class) (m : Move) (q : Position) → q ≡ after p m → is_zeroing p m ≡ false → probed classes q ≡ Some j → stays k j ≡ true → distance_by classes numbers j q ≡ None →
     quiet_distance classes numbers p k m ≡ None
@@ -236,6 +230,9 @@ quiet_unknown classes numbers p k j m q same quiet known stay none =
     let there : probed classes (after p m) ≡ Some j = ap (probed classes) (sym same) ∙ known in
     let lacks : distance_by classes numbers j (after p m) ≡ None = ap (distance_by classes numbers j) (sym same) ∙ none in
     rw (quiet, there, stay, lacks) refl
+
+pub probed_unknown : (classes : StoredClasses) (numbers : StoredNumbers) (p : Position) (k : Class) → probed classes p ≡ Some k → distance_of classes numbers p k ≡ None → probed_distance classes numbers p ≡ None
+probed_unknown classes numbers p k known none = rw (known, none) refl
 
 pub ranked_unknown : (classes : StoredClasses) (numbers : StoredNumbers) (counter : ℕ) (p : Position) (m : Move) (j : Class) (q : Position) → q ≡ after p m → probed classes q ≡ Some j → move_distance classes numbers p m j ≡ None →
     ranked classes numbers counter p m ≡ None

@@ -8,20 +8,22 @@ use Rattle.szg_game.specs.Classes.{negate, better, best_after}
 use Rattle.szg_game.specs.Certified.{is_win, is_loss}
 use Rattle.szg_game.specs.declared.Class.{Class}
 use Rattle.szg_game.specs.declared.Class.TheVariants.{Loss, BlessedLoss, Draw, CursedWin, Win}
-use Rattle.szg_game.proofs.Lists.{IsIn, in_contains, any_in, in_map, all_in, each_in}
+use Rattle.szg_game.proofs.Lists.{IsIn, in_contains, contains_in, any_in, in_map, all_in, each_in}
 use Rattle.szg_values.specs.Placement.{PlacedMan}
 use Rattle.szg_values.specs.declared.Color.{Color}
 use Rattle.szg_chess.specs.declared.Move.{Move}
 use Rattle.szg_chess.specs.Position.{Position, IsPosition}
-use Rattle.szg_chess.specs.Moves.{after, is_capture, is_en_passant, is_square, is_pawn_on, legal_moves, legal_captures, has_no_move}
+use Rattle.szg_chess.specs.Moves.{after, is_capture, is_zeroing, is_en_passant, is_square, is_pawn_on, legal_moves, legal_captures, has_no_move}
 use Rattle.szg_chess.specs.Attacks.{files_apart}
-use Rattle.szg_chess.proofs.Captured.{captures_law, captured_law}
-use Rattle.szg_probe.specs.Distances.{StoredNumbers, is_drawn}
+use Rattle.szg_chess.proofs.Captured.{captures_law}
+use Rattle.szg_probe.specs.Chess.{without_right}
+use Rattle.szg_probe.specs.Distances.{StoredNumbers, is_drawn, MayFailByZeroing, MayFailBySearch}
 use Rattle.szg_probe.specs.Probing.{StoredClasses, stored_class, is_known_loss, all_known, best_capture, has_only_captures, has_only_en_passant, class_from, probed_at, probed, MayFail}
-use Rattle.szg_probe.proofs.Choosing.{better_turns, better_joins, filter_true}
+use Rattle.szg_probe.proofs.Choosing.{better_turns, better_joins, filter_true, filter_in}
 use Rattle.szg_probe.proofs.Beside.{map_same, only_en_passant}
 use Rattle.szg_probe.proofs.Kings.{TwoKings, each_of_full}
 use Rattle.szg_probe.proofs.Probed.{men_two, capture_fewer, no_capture}
+use Rattle.szg_probe.proofs.WithoutRight.{is_plain, captures_without, plain_after}
 
 -- ---- captures alone
 
@@ -230,13 +232,29 @@ pub fault_carried : {E : Type 0} (explains : StoredClasses → StoredNumbers →
     MayFail (explains a s fault) q → MayFail (explains b t fault) r
 fault_carried explains a b s t q r fault e d f h = subst (λ (n : StoredNumbers). MayFail (explains b n fault) r) d (subst (λ (c : StoredClasses). MayFail (explains c s fault) r) e (subst (MayFail (explains a s fault)) f h))
 
--- a fault after a legal move
-pub fault_after : (F : List PlacedMan → Color → Type 0) (p : Position) (m : Move) (q : Position) → IsPosition p → Contains (legal_moves p) m → q ≡ after p m → MayFail F q → MayFail F p
-fault_after F p m q position held same f =
-    let count = captured_law p m position held in
-    let few = f.2 in
-    let size : length q.placed_men ≡ length (after p m).placed_men = ap (λ (r : Position). length r.placed_men) same in
-    (f.0, f.1, omega (arith, count, few, size), f.3)
+-- a fault for the position itself
+pub fault_here : (F : List PlacedMan → Color → Type 0) (p : Position) → F p.placed_men p.mover → MayFail F p
+fault_here F p f = ([], tt, f)
 
-pub fault_below : (F : List PlacedMan → Color → Type 0) (p : Position) (m : Move) → IsPosition p → IsIn (legal_captures p) m → MayFail F (after p m) → MayFail F p
-fault_below F p m position i f = let fewer = (capture_fewer p position m i).1 in let few = f.2 in (f.0, f.1, omega arith, f.3)
+-- a fault after a legal capture
+pub fault_below : (F : List PlacedMan → Color → Type 0) (p : Position) (m : Move) → IsIn (legal_captures p) m → MayFail F (after p m) → MayFail F p
+fault_below F p m i f = (m ∷ f.0, (contains_in (legal_captures p) m i, f.1), f.2)
+
+-- a fault without the right to capture en passant
+pub fault_without : (F : List PlacedMan → Color → Type 0) (p q : Position) → IsPosition p → q ≡ without_right p → MayFail F q → MayFail F p
+fault_without F p q position same f = by_moves (subst (MayFail F) same f)
+  where
+    by_moves : MayFail F (without_right p) → MayFail F p
+    by_moves ([], w, f) = fault_here F p f
+    by_moves (m ∷ ms, w, f) =
+        let i = subst (λ (xs : List Move). IsIn xs m) (captures_without p position) (in_contains (legal_captures (without_right p)) m w.0) in
+        let parts = filter_in (is_plain p) (legal_captures p) m i in
+        fault_below F p m parts.0 (subst (MayFail F) (sym (plain_after p m parts.1)) (ms, w.1, f))
+
+-- a fault after a zeroing move
+pub fault_by_zeroing : (F : List PlacedMan → Color → Type 0) (p : Position) (m : Move) (q : Position) → Contains (legal_moves p) m → is_zeroing p m ≡ true → q ≡ after p m → MayFail F q → MayFailByZeroing F p
+fault_by_zeroing F p m q held zeroing same f = inr (m, held, zeroing, subst (MayFail F) same f)
+
+-- a fault after another move
+pub fault_by_search : (F : List PlacedMan → Color → Type 0) (p : Position) (m : Move) (q : Position) → Contains (legal_moves p) m → is_zeroing p m ≡ false → q ≡ after p m → MayFailByZeroing F q → MayFailBySearch F p
+fault_by_search F p m q held quiet same f = inr (m, held, quiet, subst (MayFailByZeroing F) same f)

@@ -1,6 +1,6 @@
 -- The distance of a position in plies, as tables count it: to the next zeroing move or to mate, and 100 more if the
 -- fifty-move rule spoils a win or saves a loss.
-use Rattle.std.specs.Prelude.{ℕ, ℤ, pos, neg_ℤ, ◌+◌, ◌-◌, ◌*◌, ◌^◌, ◌||◌, ◌==◌, not, Bool, true, false, List, [], ◌∷◌, map, min, max, Option, Some, None, option_map, option_and_then, if◌then◌else◌, nat_le}
+use Rattle.std.specs.Prelude.{ℕ, ℤ, pos, neg_ℤ, ◌⊎◌, ◌+◌, ◌-◌, ◌*◌, ◌^◌, ◌||◌, ◌==◌, not, Bool, true, false, IsTrue, IsFalse, List, [], ◌∷◌, map, Contains, min, max, Option, Some, None, option_map, option_and_then, if◌then◌else◌, nat_le}
 use Rattle.std.specs.List.{list_any}
 use Rattle.szg_values.specs.Placement.{PlacedMan}
 use Rattle.szg_values.specs.declared.Color.{Color}
@@ -175,8 +175,19 @@ rank_of m = rank_at m.distance.class m.distance.plies
 
 -- ---- faults
 
--- Why there is no answer for a position: the tables may fail for a position of as many men or fewer, or contradict
--- themselves, and then there is none.
-abbrev pub MayLack : {F : Type 0} → (F → List PlacedMan → Color → Type 0) → Type 0 → Position → DistanceFault F → Type 0
-MayLack explains none p (Tables fault) = MayFail (explains fault) p
-MayLack explains none p Contradiction = none
+-- as in a probe of p, or of the position after a zeroing move
+abbrev pub MayFailByZeroing : (List PlacedMan → Color → Type 0) → Position → Type 0
+MayFailByZeroing fails p = MayFail fails p ⊎ ((m : Move) × Contains (legal_moves p) m × IsTrue (is_zeroing p m) × MayFail fails (after p m))
+
+-- the same, or that for the position after a move that is not zeroing
+abbrev pub MayFailBySearch : (List PlacedMan → Color → Type 0) → Position → Type 0
+MayFailBySearch fails p = MayFailByZeroing fails p ⊎ ((m : Move) × Contains (legal_moves p) m × IsFalse (is_zeroing p m) × MayFailByZeroing fails (after p m))
+
+-- that for the position after a legal move
+abbrev pub MayFailByMove : (List PlacedMan → Color → Type 0) → Position → Type 0
+MayFailByMove fails p = (m : Move) × Contains (legal_moves p) m × MayFailBySearch fails (after p m)
+
+-- Why there is no answer for a position: the tables may fail, or contradict themselves, and then there is none.
+abbrev pub MayLack : {F : Type 0} → (F → Type 0) → Type 0 → DistanceFault F → Type 0
+MayLack fails none (Tables fault) = fails fault
+MayLack fails none Contradiction = none

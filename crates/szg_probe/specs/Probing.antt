@@ -1,5 +1,5 @@
 -- What a set of tables says of a position.
-use Rattle.std.specs.Prelude.{ℕ, zero, suc, ◌≡◌, ◌≤◌, ◌||◌, ◌&&◌, ◌==◌, not, Bool, false, List, [], ◌∷◌, length, map, All, Option, Some, None, option_map, if◌then◌else◌}
+use Rattle.std.specs.Prelude.{ℕ, zero, suc, ◌≡◌, ◌||◌, ◌&&◌, ◌==◌, not, ⊤, Bool, false, List, [], ◌∷◌, length, map, All, Contains, Option, Some, None, option_map, if◌then◌else◌}
 use Rattle.std.specs.List.{list_any, list_all}
 use Rattle.szg_values.specs.Placement.{PlacedMan}
 use Rattle.szg_values.specs.declared.Color.{Color}
@@ -8,6 +8,7 @@ use Rattle.szg_game.specs.Certified.{is_win, is_loss}
 use Rattle.szg_game.specs.declared.Class.{Class}
 use Rattle.szg_game.specs.declared.Class.TheVariants.{Draw, Win}
 use Rattle.szg_chess.specs.Position.{Position, IsPosition}
+use Rattle.szg_chess.specs.declared.Move.{Move}
 use Rattle.szg_chess.specs.Moves.{after, is_capture, legal_moves, legal_captures, has_no_move, has_move_beside_en_passant}
 use Rattle.szg_probe.specs.Chess.{ChessClass}
 
@@ -80,6 +81,16 @@ AreTrue tables = (p : Position) (k : Class) → IsPosition p → p.en_passant �
 
 -- ---- faults
 
--- a fault may come for a position of as many men as p or fewer, and more than two
+-- the position after these moves in turn
+abbrev pub after_all : Position → List Move → Position
+after_all p [] = p
+after_all p (m ∷ ms) = after_all (after p m) ms
+
+-- each of these moves in turn is a legal capture
+abbrev pub AreCaptures : Position → List Move → Type 0
+AreCaptures p [] = ⊤
+AreCaptures p (m ∷ ms) = Contains (legal_captures p) m × AreCaptures (after p m) ms
+
+-- a fault may come for p, and for each position that captures lead to from p
 abbrev pub MayFail : (List PlacedMan → Color → Type 0) → Position → Type 0
-MayFail fails p = (q : Position) × IsPosition q × (length q.placed_men ≤ length p.placed_men) × fails q.placed_men q.mover
+MayFail fails p = (ms : List Move) × AreCaptures p ms × fails (after_all p ms).placed_men (after_all p ms).mover

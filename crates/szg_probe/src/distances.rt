@@ -9,7 +9,7 @@ ghost use Rattle.szg_game.specs.Classes.{negate};
 ghost use Rattle.szg_chess.specs.Moves.{after, has_no_move, legal_moves};
 ghost use Rattle.szg_probe.specs.Chess.{ChessClass};
 ghost use Rattle.szg_probe.specs.Probing.{AreTrue, MayFail, has_only_captures, probed};
-ghost use Rattle.szg_probe.specs.Distances.{MayLack, any_known, at_counter, choose_some, chosen, class_at, differs_without_right, distance_by, distance_of, has_zeroing, is_drawn, is_next, keeps_by_zeroing, offset_of, probed_distance, quiet_distance, searched_distance, signed_distance, stays, stored_distance};
+ghost use Rattle.szg_probe.specs.Distances.{MayFailByZeroing, MayFailBySearch, MayLack, any_known, at_counter, choose_some, chosen, class_at, differs_without_right, distance_by, distance_of, has_zeroing, is_drawn, is_next, keeps_by_zeroing, offset_of, probed_distance, quiet_distance, searched_distance, signed_distance, stays, stored_distance};
 
 use crate::probes::{probe_wdl, search};
 use crate::{DistanceTables, Tables};
@@ -90,7 +90,7 @@ pub fn probe_dtz<T: DistanceTables>(
     ensures same { tables.new ≡ tables.old }
     ensures distance { IfOk result (λ d. probed_distance (T.stored tables.old) (T.numbers tables.old) position.now ≡ Some (d.class, d.plies)) }
     ensures class { IfOk result (λ d. AreTrue (T.stored tables.old) → ChessClass position.now d.class) }
-    ensures fault { IfErr result (MayLack (T.explains (T.stored tables.old) (T.numbers tables.old)) (probed_distance (T.stored tables.old) (T.numbers tables.old) position.now ≡ None) position.now) }
+    ensures fault { IfErr result (MayLack (λ fault. MayFailBySearch (T.explains (T.stored tables.old) (T.numbers tables.old) fault) position.now) (probed_distance (T.stored tables.old) (T.numbers tables.old) position.now ≡ None)) }
 {
     let class = match probe_wdl(tables, position) {
         Ok(class) => class,
@@ -115,7 +115,7 @@ pub(crate) fn distance_of<T: DistanceTables>(
     ensures same { tables.new ≡ tables.old }
     ensures distance { IfOk result (λ d. distance_of (T.stored tables.old) (T.numbers tables.old) position.now class ≡ Some d) }
     ensures few { IfOk result (λ d. d < 2 ^ 31 + 102) }
-    ensures fault { IfErr result (MayLack (T.explains (T.stored tables.old) (T.numbers tables.old)) (distance_of (T.stored tables.old) (T.numbers tables.old) position.now class ≡ None) position.now) }
+    ensures fault { IfErr result (MayLack (λ fault. MayFailBySearch (T.explains (T.stored tables.old) (T.numbers tables.old) fault) position.now) (distance_of (T.stored tables.old) (T.numbers tables.old) position.now class ≡ None)) }
 {
     match stored_distance(tables, position, class) {
         Ok(Some(plies)) => Ok(plies),
@@ -152,7 +152,7 @@ fn keeps_by_zeroing<T: Tables>(
     requires { Contains (legal_moves position.now) m }
     ensures same { tables.new ≡ tables.old }
     ensures keeps { IfOk result (λ b. keeps_by_zeroing (T.stored tables.old) position.now class m ≡ Some b) }
-    ensures fault { IfErr result (λ fault. MayFail (T.explains (T.stored tables.old) (T.numbers tables.old) fault) position.now) }
+    ensures fault { IfErr result (λ fault. MayFailByZeroing (T.explains (T.stored tables.old) (T.numbers tables.old) fault) position.now) }
 {
     // A fact that the proof uses: the men are those of a position.
     let _ = position.men();
@@ -175,7 +175,7 @@ fn some_keeps<T: Tables>(
     requires { All (Contains (legal_moves position.now)) moves.now }
     ensures same { tables.new ≡ tables.old }
     ensures keeps { IfOk result (λ b. any_known (map (keeps_by_zeroing (T.stored tables.old) position.now class) moves.now) ≡ Some b) }
-    ensures fault { IfErr result (λ fault. MayFail (T.explains (T.stored tables.old) (T.numbers tables.old) fault) position.now) }
+    ensures fault { IfErr result (λ fault. MayFailByZeroing (T.explains (T.stored tables.old) (T.numbers tables.old) fault) position.now) }
 {
     for m in moves {
         match keeps_by_zeroing(tables, position, class, *m) {
@@ -205,7 +205,7 @@ fn has_zeroing<T: Tables>(
 ) -> Result<bool, T::Fault>
     ensures same { tables.new ≡ tables.old }
     ensures zeroing { IfOk result (λ b. has_zeroing (T.stored tables.old) position.now class ≡ Some b) }
-    ensures fault { IfErr result (λ fault. MayFail (T.explains (T.stored tables.old) (T.numbers tables.old) fault) position.now) }
+    ensures fault { IfErr result (λ fault. MayFailByZeroing (T.explains (T.stored tables.old) (T.numbers tables.old) fault) position.now) }
 {
     if has_pawn(position) {
         some_keeps(tables, position, position.legal_moves().as_slice(), class)
@@ -248,7 +248,7 @@ fn is_next<T: Tables>(tables: &mut T, position: &Position, class: Class) -> Resu
     requires { probed (T.stored tables.old) position.now ≡ Some class }
     ensures same { tables.new ≡ tables.old }
     ensures next { IfOk result (λ b. is_next (T.stored tables.old) position.now class ≡ Some b) }
-    ensures fault { IfErr result (λ fault. MayFail (T.explains (T.stored tables.old) (T.numbers tables.old) fault) position.now) }
+    ensures fault { IfErr result (λ fault. MayFailByZeroing (T.explains (T.stored tables.old) (T.numbers tables.old) fault) position.now) }
 {
     if has_no_quiet_move(position) {
         return Ok(true);
@@ -272,7 +272,7 @@ fn stored_distance<T: DistanceTables>(
     ensures same { tables.new ≡ tables.old }
     ensures distance { IfOk result (λ d. stored_distance (T.stored tables.old) (T.numbers tables.old) position.now class ≡ Some d) }
     ensures few { IfOk result (λ d. ForSome d (λ plies. plies < 2 ^ 31 + 101)) }
-    ensures fault { IfErr result (λ fault. MayFail (T.explains (T.stored tables.old) (T.numbers tables.old) fault) position.now) }
+    ensures fault { IfErr result (λ fault. MayFailByZeroing (T.explains (T.stored tables.old) (T.numbers tables.old) fault) position.now) }
 {
     // A fact that the proof uses: the men are those of a position.
     let _ = position.men();
@@ -301,7 +301,7 @@ fn searched_distance<T: DistanceTables>(
     ensures same { tables.new ≡ tables.old }
     ensures distance { IfOk result (λ d. searched_distance (T.stored tables.old) (T.numbers tables.old) position.now class ≡ Some d) }
     ensures few { IfOk result (λ d. d < 2 ^ 31 + 102) }
-    ensures fault { IfErr result (MayLack (T.explains (T.stored tables.old) (T.numbers tables.old)) (searched_distance (T.stored tables.old) (T.numbers tables.old) position.now class ≡ None) position.now) }
+    ensures fault { IfErr result (MayLack (λ fault. MayFailBySearch (T.explains (T.stored tables.old) (T.numbers tables.old) fault) position.now) (searched_distance (T.stored tables.old) (T.numbers tables.old) position.now class ≡ None)) }
 {
     let moves = position.legal_moves();
     let mut found = chosen_of_none(class);
@@ -365,7 +365,7 @@ fn quiet_distance<T: DistanceTables>(
     ensures same { tables.new ≡ tables.old }
     ensures distance { IfOk result (λ quiet. quiet_distance (T.stored tables.old) (T.numbers tables.old) position.now class m ≡ Some quiet) }
     ensures few { IfOk result (λ quiet. ForSome quiet (λ d. d < 2 ^ 31 + 102)) }
-    ensures fault { IfErr result (MayLack (T.explains (T.stored tables.old) (T.numbers tables.old)) (quiet_distance (T.stored tables.old) (T.numbers tables.old) position.now class m ≡ None) position.now) }
+    ensures fault { IfErr result (MayLack (λ fault. MayFailBySearch (T.explains (T.stored tables.old) (T.numbers tables.old) fault) position.now) (quiet_distance (T.stored tables.old) (T.numbers tables.old) position.now class m ≡ None)) }
 {
     // A fact that the proof uses: the men are those of a position.
     let _ = position.men();
@@ -397,7 +397,7 @@ fn distance_by<T: DistanceTables>(
     ensures same { tables.new ≡ tables.old }
     ensures distance { IfOk result (λ d. distance_by (T.stored tables.old) (T.numbers tables.old) class position.now ≡ Some d) }
     ensures few { IfOk result (λ d. d < 2 ^ 31 + 102) }
-    ensures fault { IfErr result (MayLack (T.explains (T.stored tables.old) (T.numbers tables.old)) (distance_by (T.stored tables.old) (T.numbers tables.old) class position.now ≡ None) position.now) }
+    ensures fault { IfErr result (MayLack (λ fault. MayFailByZeroing (T.explains (T.stored tables.old) (T.numbers tables.old) fault) position.now) (distance_by (T.stored tables.old) (T.numbers tables.old) class position.now ≡ None)) }
 {
     if position.is_mate() {
         return Ok(1);

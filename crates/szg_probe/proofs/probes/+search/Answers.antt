@@ -37,7 +37,7 @@ returns-in-Err-clause-fault g t c =
     let p = c.args.position.now in
     let i = item_in p c.as_slice-m-items.result.now c.loop-m.m-index c.m-item.result (c.as_slice-m-items.ensures.value ∙ c.captures-captures.ensures.list) c.loop-m-test.true c.m-item.is in
     let explains = g.T.Tables.explains in
-    fault_below (explains (g.T.Tables.stored c.args.tables.now) (g.T.Tables.numbers c.args.tables.now) c.in-Err.fault) p c.m-item.result c.men.ensures.position i
+    fault_below (explains (g.T.Tables.stored c.args.tables.now) (g.T.Tables.numbers c.args.tables.now) c.in-Err.fault) p c.m-item.result i
     (fault_carried explains (g.T.Tables.stored c.loop-m.tables) (g.T.Tables.stored c.args.tables.now) (g.T.Tables.numbers c.loop-m.tables) (g.T.Tables.numbers c.args.tables.now) c.after.result _ c.in-Err.fault (ap g.T.Tables.stored c.loop-m.invariant.0) (ap g.T.Tables.numbers c.loop-m.invariant.0) c.after.ensures c.in-Err.ensures.fault)
 
 pub returns-then-is_loss-clause-probed : goal.returns-then-is_loss-clause-probed
