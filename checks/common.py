@@ -26,6 +26,8 @@ SAMPLES = [
     ("KQvK", "wdl", "kqvk_wdl_paired.rtbw", "b Ke8 Qa1 kh1"),
     ("KPvK", "dtz", "kpvk_dtz_mapped.rtbz", "w Ke1 Pa2 ke8"),
 ]
+# Seconds after which a run of the program counts as hanging. Verifying four men may take minutes on a busy machine.
+LIMIT = 3600
 # The last sixteen bytes of a made table.
 LAST = bytes(range(16))
 Word = Union[str, bytes, Path]

@@ -15,6 +15,7 @@ from urllib.parse import quote
 import pytest
 import stand_in
 import szg
+from common import LIMIT
 from conftest import KNIGHT, PAIRED, ROOT
 from szg import server
 from table_writer import file_of
@@ -36,7 +37,7 @@ def address() -> Iterator[str]:
 def got(address: str, path: str) -> Tuple[int, str, str]:
     """The status, the type and the text of an answer."""
     try:
-        with urllib.request.urlopen(address + path, timeout=20) as answer:
+        with urllib.request.urlopen(address + path, timeout=LIMIT) as answer:
             assert answer.headers["Access-Control-Allow-Origin"] == "*"
             return answer.status, answer.headers["Content-Type"], answer.read().decode()
     except urllib.error.HTTPError as error:
@@ -130,7 +131,7 @@ def test_the_page_in_a_browser(address: str, tmp_path: Path) -> None:
 
     def shown(path: str) -> str:
         words = [browser, "--headless", "--no-sandbox", "--disable-gpu", f"--user-data-dir={tmp_path}", "--dump-dom", address + path]
-        return subprocess.run(words, stdout=subprocess.PIPE, stderr=subprocess.DEVNULL, text=True, timeout=60, check=True).stdout
+        return subprocess.run(words, stdout=subprocess.PIPE, stderr=subprocess.DEVNULL, text=True, timeout=600, check=True).stdout
 
     text = shown("?fen=" + quote("4k3/8/4K3/4P3/8/8/8/8 w"))
     board = re.search(r'<table class="board"><tbody>(.*?)</tbody>', text, re.S)[1]

@@ -7,6 +7,7 @@ from pathlib import Path
 
 import pytest
 import szg
+from common import LIMIT
 from conftest import ROOT
 
 BEGIN = f"""
@@ -19,10 +20,10 @@ FEN, MATE_FEN = "4K3/8/8/8/8/8/8/Q6k w", "7k/8/5K2/8/8/8/8/6Q1 w"
 """
 
 
-def ended(code: str, *words: str, seconds: int = 60) -> str:
+def ended(code: str, *words: str) -> str:
     """What a program prints that must end well."""
     env = {**os.environ, "PYTHONPATH": str(Path(szg.__file__).parents[1]), "PYTHONDONTWRITEBYTECODE": "1"}
-    ran = subprocess.run([sys.executable, "-W", "ignore", "-c", BEGIN + code, *words], env=env, capture_output=True, text=True, timeout=seconds)
+    ran = subprocess.run([sys.executable, "-W", "ignore", "-c", BEGIN + code, *words], env=env, capture_output=True, text=True, timeout=LIMIT)
     assert (ran.returncode, ran.stderr) == (0, "")
     return ran.stdout
 
@@ -78,10 +79,10 @@ threads = [threading.Thread(target=ask) for _ in range(6)]
 for thread in threads:
     thread.start()
 statuses, end = [], time.monotonic() + 40
-while len(statuses) < 150 and (time.monotonic() < end or len(statuses) < 5):
+while len(statuses) < 150 and not any(statuses) and (time.monotonic() < end or len(statuses) < 5):
     child = os.fork()
     if not child:
-        signal.alarm(10)
+        signal.alarm(100)
         is_right = table.get(11711) == 4 and tables.probe_wdl_table(FEN) == 2 and tables.probe_dtz(MATE_FEN) == 1
         os._exit(0 if is_right else 1)
     statuses.append(os.waitpid(child, 0)[1])
@@ -89,7 +90,7 @@ is_over = True
 for thread in threads:
     thread.join()
 assert not any(statuses), statuses
-""", seconds=120)
+""")
 
 
 def test_an_interrupted_call_leaks_nothing() -> None:
@@ -146,7 +147,7 @@ for _ in range(3000):
 after = held()
 assert after[1:] == before[1:], (before, after)
 assert after[0] - before[0] < 1_000_000, (before, after)
-""", seconds=120)
+""")
 
 
 @pytest.mark.parametrize("comes", ["before", "after the file was looked at"])
@@ -163,5 +164,5 @@ try:
     szg.Table.open(sys.argv[1] + "/KQvK.rtbw")
 except OSError as error:
     print(error)
-""", str(tmp_path), comes, seconds=20)
+""", str(tmp_path), comes)
     assert said == f"None\n[Errno 22] not a regular file: '{tmp_path}/KQvK.rtbw'\n"
