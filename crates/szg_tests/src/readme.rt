@@ -21,7 +21,7 @@ pub fn value(alloc: Global, name: &str, bytes: &[u8], i: u64) -> Option<u16> {
     }
 }
 
-/// Returns the distance in plies of a placement in a DTZ table, for its class (2 win, -2 loss).
+/// Returns the DTZ in plies that a table stores for a placement, for its class (2 win, -2 loss).
 pub fn number(table: &Table, placement: &Placement, class: i8) -> Option<u32> {
     if table.kind() != Kind::Dtz || class < -2 || 2 < class {
         return None;
