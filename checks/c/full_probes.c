@@ -21,27 +21,6 @@ enum { UNSOLVED = 9 };
 static long passing, passing_only, passing_wins;
 
 /* ---- en passant */
-/* Whether the man on `from` attacks `to`, on a board of letters by square. */
-static int attacks(const char *board, int from, int to) {
-    int files = (to & 7) - (from & 7), ranks = (to >> 3) - (from >> 3), letter = toupper((unsigned char)board[from]);
-    if (letter == 'P') return abs(files) == 1 && ranks == (board[from] == 'P' ? 1 : -1);
-    if (letter == 'N') return files * files + ranks * ranks == 5;
-    if (letter == 'K') return abs(files) <= 1 && abs(ranks) <= 1;
-    int is_straight = !files || !ranks, is_diagonal = abs(files) == abs(ranks);
-    if (from == to || !((is_straight && letter != 'B') || (is_diagonal && letter != 'R'))) return 0;
-    int step = 8 * ((ranks > 0) - (ranks < 0)) + (files > 0) - (files < 0);
-    for (from += step; from != to && !board[from]; from += step) {}
-    return from == to;
-}
-
-/* Whether a king is attacked, not counting a man on `aside`. */
-static int is_attacked(const char *board, char king, int aside) {
-    int to = (int)((const char *)memchr(board, king, 64) - board);
-    for (int from = 0; from < 64; from++)
-        if (board[from] && from != aside && !islower((unsigned char)board[from]) != (king == 'K') && attacks(board, from, to)) return 1;
-    return 0;
-}
-
 /* Makes White's move, which takes what is on `taken`. Returns whether it is legal; *checks is whether another man gives check. */
 static int is_legal(const char *board, int from, int to, int taken, int *checks) {
     char after[64];

@@ -3,23 +3,12 @@
  * Compiled with the address sanitizer, which watches folders.c and tbprobe.c. SAMPLES is the folder of the sample tables.
  *
  * An input: the number of the sample that is replaced, the number of boards, 16 bytes for each, and the file's bytes. */
-#include "szg.h"
+#include "guided.h"
 #include "tbprobe.h"
-#include <stdio.h>
-#include <stdlib.h>
-#include <string.h>
 #include <unistd.h>
 
-int LLVMFuzzerInitialize(int *count, char ***words);
-int LLVMFuzzerTestOneInput(const uint8_t *input, size_t length);
-
-enum { FILES = 10, BOARDS = 8, BYTES = 16, MOST = TB_MAX_MOVES };
-static const char *const names[FILES / 2] = {"KBvK", "KNvK", "KPvK", "KQvK", "KRvK"};
+enum { BOARDS = 8, BYTES = 16, MOST = TB_MAX_MOVES };
 static char folder[] = "/tmp/szg_guided_XXXXXX", paths[4200];
-
-static void require(int is_so, const char *what) {
-    if (!is_so) { fprintf(stderr, "guided_fathom: %s\n", what); abort(); }
-}
 
 static void remove_folder(void) { rmdir(folder); }
 
@@ -113,7 +102,7 @@ int LLVMFuzzerTestOneInput(const uint8_t *input, size_t length) {
     int replaced = input[0] % (2 * FILES);
     bool is_whole = replaced >= FILES;
     if (!is_whole) {
-        snprintf(path, sizeof path, "%s/%s.rtb%c", folder, names[replaced / 2], replaced % 2 ? 'z' : 'w');
+        write_path(path, sizeof path, folder, replaced);
         FILE *f = fopen(path, "wb");
         require(f && fwrite(input + used, 1, length - used, f) == length - used && fclose(f) == 0, "no file");
     }

@@ -2,23 +2,14 @@
  * written from what szg.h and docs/CHESS.md say of FEN. No byte after the text is read: none may be.
  *
  * The first byte of an input says how many of the next ones change a valid text that is made of the rest; 0 takes the input as it is. */
-#include "szg.h"
-#include <stdio.h>
-#include <stdlib.h>
-#include <string.h>
+#include "boards.h"
+#include "guided.h"
 #include <sys/mman.h>
 
-int LLVMFuzzerInitialize(int *count, char ***words);
-int LLVMFuzzerTestOneInput(const uint8_t *input, size_t length);
-
-enum { LONGEST = 4096, SQUARES = 64, NO_MAN = '.' };
+enum { LONGEST = 4096 };
 static char *room_end; /* what follows can't be read */
 struct parsed { char board[SQUARES]; uint8_t mover, en_passant; uint32_t counter; };
 struct field { const char *text; size_t length; };
-
-static void require(int is_so, const char *what) {
-    if (!is_so) { fprintf(stderr, "guided_fens: %s\n", what); abort(); }
-}
 
 int LLVMFuzzerInitialize(int *count, char ***words) {
     (void)count, (void)words;
@@ -35,25 +26,6 @@ static size_t index_in(const char *letters, char letter) {
     return at ? (size_t)(at - letters) : SIZE_MAX;
 }
 
-static int color_of(char man) { return man >= 'a'; }
-
-static int is_attacked(const char *board, int square, int by) {
-    static const int steps[16][2] = {{1, 0}, {0, 1}, {-1, 0}, {0, -1}, {1, 1}, {-1, 1}, {-1, -1}, {1, -1},
-                                     {1, 2}, {2, 1}, {2, -1}, {1, -2}, {-1, -2}, {-2, -1}, {-2, 1}, {-1, 2}};
-    for (int i = 0; i < 16; i++)
-        for (int far = 1, file = square % 8, rank = square / 8; far < (i < 8 ? 8 : 2); far++) {
-            file += steps[i][0], rank += steps[i][1];
-            if (file < 0 || file > 7 || rank < 0 || rank > 7) break;
-            char man = board[8 * rank + file];
-            if (man == NO_MAN) continue;
-            char kind = man & 95;
-            int is_pawn = kind == 'P' && far == 1 && i >= 4 && i < 8 && steps[i][1] == (by ? 1 : -1);
-            if (color_of(man) == by && (i >= 8 ? kind == 'N' : kind == 'Q' || kind == (i < 4 ? 'R' : 'B') || (kind == 'K' && far == 1) || is_pawn)) return 1;
-            break;
-        }
-    return 0;
-}
-
 static int is_board(struct field f, char *board) {
     int file = 0, rank = 7;
     for (size_t i = 0; i < f.length; i++) {
@@ -61,7 +33,7 @@ static int is_board(struct field f, char *board) {
         int width = c >= '1' && c <= '8' ? c - '0' : index_in("PNBRQKpnbrqk", c) != SIZE_MAX ? 1 : 0;
         if (width == 0 && c != '/') return 0;
         if (width == 0 ? file != 8 || rank-- == 0 : file + width > 8) return 0;
-        for (int j = 0; j < width; j++) board[8 * rank + file + j] = c < 'A' ? NO_MAN : c;
+        for (int j = 0; j < width; j++) board[8 * rank + file + j] = c < 'A' ? 0 : c;
         file = width == 0 ? 0 : file + width;
     }
     return rank == 0 && file == 8;
@@ -69,7 +41,7 @@ static int is_board(struct field f, char *board) {
 
 static uint32_t men_fault(const char *board) {
     int men = 0, kings[2] = {0};
-    for (int i = 0; i < SQUARES; i++) men += board[i] != NO_MAN, kings[0] += board[i] == 'K', kings[1] += board[i] == 'k';
+    for (int i = 0; i < SQUARES; i++) men += board[i] != 0, kings[0] += board[i] == 'K', kings[1] += board[i] == 'k';
     if (men > SZG_MAX_MEN || kings[0] != 1 || kings[1] != 1) return SZG_MEN;
     for (int i = 0; i < SQUARES; i++) if ((board[i] & 95) == 'P' && (i < 8 || i > 55)) return SZG_PAWN_RANK;
     return SZG_DONE;
@@ -78,7 +50,7 @@ static uint32_t men_fault(const char *board) {
 /* Whether a pawn can just have passed over the square. */
 static int may_have_passed(const struct parsed *p) {
     int up = p->mover == SZG_WHITE ? 8 : -8, at = p->en_passant;
-    return at / 8 == (p->mover == SZG_WHITE ? 5 : 2) && p->board[at] == NO_MAN && p->board[at + up] == NO_MAN && p->board[at - up] == (p->mover == SZG_WHITE ? 'p' : 'P');
+    return at / 8 == (p->mover == SZG_WHITE ? 5 : 2) && !p->board[at] && !p->board[at + up] && p->board[at - up] == (p->mover == SZG_WHITE ? 'p' : 'P');
 }
 
 static int is_number(struct field f) {
@@ -105,8 +77,7 @@ static uint32_t parse(const char *text, size_t length, struct parsed *p) {
         p->en_passant = (uint8_t)(8 * (fields[3].text[1] - '1') + fields[3].text[0] - 'a');
         if (!may_have_passed(p)) return SZG_EN_PASSANT;
     }
-    for (int i = 0; i < SQUARES; i++)
-        if (p->board[i] == (p->mover == SZG_WHITE ? 'k' : 'K') && is_attacked(p->board, i, p->mover)) return SZG_IN_CHECK;
+    if (is_attacked(p->board, p->mover == SZG_WHITE ? 'k' : 'K', NO_SQUARE)) return SZG_IN_CHECK;
     if (count != 4 && (count != 6 || !is_number(fields[4]) || !is_number(fields[5]))) return SZG_MAN;
     for (size_t i = 0; count == 6 && i < fields[4].length; i++) p->counter = 10 * p->counter + (uint32_t)(fields[4].text[i] - '0');
     return SZG_DONE;
@@ -116,29 +87,18 @@ static uint32_t parse(const char *text, size_t length, struct parsed *p) {
 
 /* A valid board of up to six men in the form of a text, by bytes. */
 static size_t make(const uint8_t *from, size_t length, char *text) {
-    char board[SQUARES + 1];
-    memset(board, NO_MAN, SQUARES);
+    char board[SQUARES] = {0};
     board[length > 0 ? from[0] % SQUARES : 0] = 'K';
     for (size_t i = 0; i < 5 && 2 * i + 3 < length; i++) {
-        char man = i == 0 ? 'k' : "PNBRQpnbrq"[from[2 * i + 2] % 10];
-        uint8_t at = from[2 * i + 1] % SQUARES;
-        if (board[at] == NO_MAN) board[at] = man;
-    }
-    size_t n = 0;
-    for (int rank = 7, file, gap; rank >= 0; rank--) {
-        for (file = gap = 0; file < 8; file++) {
-            char man = board[8 * rank + file];
-            if (man == NO_MAN) { gap++; continue; }
-            if (gap) text[n++] = (char)('0' + gap);
-            text[n++] = man, gap = 0;
-        }
-        if (gap) text[n++] = (char)('0' + gap);
-        text[n++] = rank ? '/' : ' ';
+        char *at = &board[from[2 * i + 1] % SQUARES];
+        if (!*at) *at = i == 0 ? 'k' : "PNBRQpnbrq"[from[2 * i + 2] % 10];
     }
     uint8_t last = length > 12 ? from[12] : 0, passed = length > 13 ? from[13] : 0;
-    n += (size_t)sprintf(text + n, "%c - ", last % 2 ? 'b' : 'w');
-    n += passed < 128 ? (size_t)sprintf(text + n, "-") : (size_t)sprintf(text + n, "%c%c", 'a' + passed % 8, last % 2 ? '3' : '6');
-    return last < 128 ? n : n + (size_t)sprintf(text + n, " %u %u", last * (passed + 1u), passed + 0u);
+    char *end = write_board(board, text);
+    end += sprintf(end, " %c - ", last % 2 ? 'b' : 'w');
+    end += passed < 128 ? sprintf(end, "-") : sprintf(end, "%c%c", 'a' + passed % 8, last % 2 ? '3' : '6');
+    if (last >= 128) end += sprintf(end, " %u %u", last * (passed + 1u), passed + 0u);
+    return (size_t)(end - text);
 }
 
 static void examine(const char *text, size_t length) {
@@ -156,7 +116,7 @@ static void examine(const char *text, size_t length) {
     }
     require(position.mover == p.mover && position.en_passant == p.en_passant && position.counter == p.counter, "the fields");
     int count = 0;
-    for (int i = 0; i < SQUARES; i++) count += p.board[i] != NO_MAN;
+    for (int i = 0; i < SQUARES; i++) count += p.board[i] != 0;
     require(position.count == (size_t)count, "the number of men");
     for (size_t i = 0; i < SZG_MAX_MEN; i++) {
         const szg_man *man = &position.men[i];

@@ -2,31 +2,20 @@
  * call that fails writes nothing but *missing, and a second call returns the same. SAMPLES is the folder of the sample tables.
  *
  * An input: the number of the sample that is replaced, the number of positions, 12 bytes for each, and the file's bytes. */
-#include "szg.h"
-#include <stdio.h>
-#include <stdlib.h>
-#include <string.h>
+#include "guided.h"
 
-int LLVMFuzzerInitialize(int *count, char ***words);
-int LLVMFuzzerTestOneInput(const uint8_t *input, size_t length);
-
-enum { FILES = 10, POSITIONS = 8, MEN = 4, BYTES = 8 + MEN, LONGEST = 1 << 20 };
-static const char *const names[FILES / 2] = {"KBvK", "KNvK", "KPvK", "KQvK", "KRvK"};
+enum { POSITIONS = 8, MEN = 4, BYTES = 8 + MEN, LONGEST = 1 << 20 };
 static struct { uint8_t *bytes; size_t length; } files[FILES];
 /* The library isn't compiled for libFuzzer: instead each kind of answer counts as code that ran. */
 enum { KINDS = 64 };
 __attribute__((section("__libfuzzer_extra_counters"))) static uint8_t seen[8 * KINDS];
 static void see(size_t what, uint64_t kind) { seen[KINDS * what + (kind < KINDS ? kind : KINDS - 1)]++; }
 
-static void require(int is_so, const char *what) {
-    if (!is_so) { fprintf(stderr, "guided_tablebase: %s\n", what); abort(); }
-}
-
 int LLVMFuzzerInitialize(int *count, char ***words) {
     (void)count, (void)words;
     for (int i = 0; i < FILES; i++) {
         char path[4096];
-        snprintf(path, sizeof path, "%s/%s.rtb%c", getenv("SAMPLES"), names[i / 2], i % 2 ? 'z' : 'w');
+        write_path(path, sizeof path, getenv("SAMPLES"), i);
         FILE *f = fopen(path, "rb");
         if (!f) { perror(path); exit(2); }
         files[i].bytes = malloc(LONGEST);
@@ -124,7 +113,7 @@ int LLVMFuzzerTestOneInput(const uint8_t *input, size_t length) {
     if (length < used) return 0;
     for (int i = 0; i < FILES; i++) {
         int is_replaced = i == input[0] % (FILES + 1);
-        uint32_t status = szg_tablebase_add(&tablebase, names[i / 2], strlen(names[i / 2]), i % 2,
+        uint32_t status = szg_tablebase_add(&tablebase, name_of(i), strlen(name_of(i)), i % 2,
                                             is_replaced ? input + used : files[i].bytes, is_replaced ? length - used : files[i].length, &answer);
         require(status == SZG_DONE || (is_replaced && status == SZG_REFUSED), "a table is refused");
         if (status == SZG_REFUSED) see(6, answer.reason), see(7, answer.place / 4);

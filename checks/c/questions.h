@@ -1,13 +1,11 @@
 /* What full_probes.c and fathom.c share: positions, as samples/solve writes them and as FENs, their images, and Fathom's probes. */
 #ifndef QUESTIONS_H
 #define QUESTIONS_H
-#include <ctype.h>
+#include "boards.h"
 #include <stdio.h>
-#include <stdlib.h>
-#include <string.h>
 #include <tbprobe.h>
 
-enum { MEN = 6, NO_SQUARE = 64, SHOWN = 20 };
+enum { MEN = 6, SHOWN = 20 };
 struct question { int count, mover, passed, counter, class, dtz, has_pawns, square[MEN]; char letter[MEN]; };
 static long asked, mates, stalemates, differences;
 static const char LETTERS[] = "PNBRQK";
@@ -43,19 +41,8 @@ static inline struct question read_fen(const char *fen) {
 static inline void write_fen(const struct question *q, char *out) {
     char board[64] = {0}, passed[3] = "-";
     for (int i = 0; i < q->count; i++) board[q->square[i]] = q->letter[i];
-    for (int rank = 7; rank >= 0; rank--) {
-        int empty = 0;
-        for (int file = 0; file < 8; file++) {
-            char man = board[rank * 8 + file];
-            if (!man) { empty++; continue; }
-            if (empty) *out++ = (char)('0' + empty);
-            *out++ = man, empty = 0;
-        }
-        if (empty) *out++ = (char)('0' + empty);
-        *out++ = rank ? '/' : ' ';
-    }
     if (q->passed != NO_SQUARE) passed[0] = (char)('a' + (q->passed & 7)), passed[1] = (char)('1' + (q->passed >> 3));
-    sprintf(out, "%c - %s %d 1", "wb"[q->mover], passed, q->counter);
+    sprintf(write_board(board, out), " %c - %s %d 1", "wb"[q->mover], passed, q->counter);
 }
 
 /* Flips files (1), ranks (2), files with ranks (4); the bit 8 exchanges the colors, for which the ranks are flipped too. */
