@@ -102,9 +102,9 @@ static uint32_t add_file(struct opened *opened, const szg_missing *missing, cons
 static uint32_t add_table(struct opened *opened, szg_missing *missing)
 {
     struct mapping file = {.next = opened->mappings};
-    errno = find_file(opened->paths, missing, &file);
-    if (errno != 0)
-        return SZG_MISSING;
+    int why = find_file(opened->paths, missing, &file);
+    if (why != 0)
+        return errno = why, SZG_MISSING;
     szg_answer answer = {0, 0};
     struct mapping *mapping = malloc(sizeof *mapping);
     uint32_t status = mapping == NULL ? SZG_MEMORY : add_file(opened, missing, &file, &answer);

@@ -53,8 +53,8 @@ int __wrap_open(const char *path, int flags, ...) {
     files += file >= 0;
     return file;
 }
-/* A call that succeeds may change errno. */
-int __wrap_close(int file) { return files--, errno = 0, __real_close(file); }
+/* A call that succeeds may change errno, but not to 0. */
+int __wrap_close(int file) { return files--, errno = EDOM, __real_close(file); }
 int __wrap_fstat(int file, struct stat *state) { return fails(FSTAT) ? -1 : __real_fstat(file, state); }
 void *__wrap_mmap(void *at, size_t length, int protection, int flags, int file, off_t offset) {
     void *bytes = fails(MMAP) ? MAP_FAILED : __real_mmap(at, length, protection, flags, file, offset);
@@ -81,6 +81,7 @@ static szg_missing missing;
 
 /* Whether a call was carried out; else it must say what was refused. */
 static bool is_done(uint32_t status) {
+    want("errno is not 0", errno != 0, 1);
     if (status == SZG_DONE) return true;
     refused++;
     want("status", status, chosen < CALLS ? calls[chosen].status : SZG_DONE);
@@ -135,6 +136,7 @@ static long tried, unnoted;
 static void run(void (*use)(void), enum call call, long number) {
     chosen = call, fails_at = number, refused = held = mapped = bytes_mapped = files = 0;
     memset(made, 0, sizeof made);
+    errno = EDOM;
     use();
     /* a call does without memory for the bits that say which blocks have passed */
     if (call == MALLOC && refused == 0) unnoted++;
