@@ -1,154 +1,221 @@
-/* Times whole probes, from a placement to its class or number, by the C library and by Fathom, on the same files and the
- * same random placements: probe FOLDER NAME [PLAN]. Neither side looks at captures or moves. Without Fathom (FATHOM is not
- * defined) the C library is timed alone. Each line has the least processor time of several rounds. */
+/* Times probes by the C library and by Fathom, on the same files and the same random positions: probe FOLDER NAME [PLAN]. Each line
+ * has the least processor time of several rounds: of what one table in memory stores, by its handle and by its front; of a position's
+ * class, with its captures, by mapped files, once each block was seen, and at the first look at each block of the WDL table; of its
+ * DTZ, and of all its moves. Both sides must find the same. Positions for which FOLDER lacks a table are left out. Without Fathom
+ * (FATHOM is not defined) the C library is timed alone. */
 #include "placements.h"
 #ifdef FATHOM
 #include "fathom.h"
+#define PEER(call, probe) {call, probe, open_fathom}
+#else
+#define PEER(call, probe) {NULL, NULL, NULL}
 #endif
 
-enum { PLACEMENTS = 1 << 16, ROUNDS = 15 };
+/* Before the first looks, WARM positions open the tables. */
+enum { POSITIONS = 1 << 16, WITH_MOVES = 1 << 9, WARM = 64, ROUNDS = 15, MOST_DRAWN = 100 * POSITIONS };
 
-/* A placement with the class and the number that the C library gives. */
-struct placement {
+struct position {
     szg_man men[SZG_MAX_MEN];
     uint8_t mover;
     int8_t wdl;
-    int64_t number;
+#ifdef FATHOM
+    fathom_position fathom;
+#endif
+};
+struct list {
+    int count;
+    struct position positions[POSITIONS];
 };
 
-static struct placement for_wdl[PLACEMENTS], for_dtz[PLACEMENTS];
+static const char *folder;
+static szg_folders *folders;
+static int men_count;
+static struct list all, with_number, first_looks, with_moves;
 
-/* A table in memory, and its front with the bytes of its file. */
-struct opened {
+/* The tables of the name in memory, WDL and DTZ, each with its front and the bytes of its file. */
+static struct {
     szg_table table;
     szg_front front;
     uint8_t *bytes;
     size_t length;
-};
+} tables[2] = {{SZG_NO_TABLE, SZG_NO_FRONT, NULL, 0}, {SZG_NO_TABLE, SZG_NO_FRONT, NULL, 0}};
 
-static struct opened wdl_table = {SZG_NO_TABLE, SZG_NO_FRONT, NULL, 0}, dtz_table = {SZG_NO_TABLE, SZG_NO_FRONT, NULL, 0};
-static int men_count;
-
-static void open_table(const char *folder, const char *name, bool dtz, struct opened *t) {
+static void open_tables(const char *name) {
     char path[4096];
     szg_answer answer;
-    snprintf(path, sizeof path, "%s/%s.%s", folder, name, dtz ? "rtbz" : "rtbw");
-    t->bytes = bytes_of(path, &t->length);
-    if (szg_open(name, strlen(name), dtz, t->bytes, t->length, &t->table, &answer) != SZG_DONE ||
-        szg_open_front(name, strlen(name), dtz, t->bytes, t->length, &t->front, &answer) != SZG_DONE)
-        fail(path);
+    for (int dtz = 0; dtz < 2; dtz++) {
+        snprintf(path, sizeof path, "%s/%s.rtb%c", folder, name, dtz ? 'z' : 'w');
+        tables[dtz].bytes = bytes_of(path, &tables[dtz].length);
+        if (szg_open(name, strlen(name), dtz, tables[dtz].bytes, tables[dtz].length, &tables[dtz].table, &answer) != SZG_DONE ||
+            szg_open_front(name, strlen(name), dtz, tables[dtz].bytes, tables[dtz].length, &tables[dtz].front, &answer) != SZG_DONE)
+            fail(path);
+    }
 }
 
-/* Draws the placements of both lists: for DTZ those of the stored side that have a number. */
-static void draw_placements(const char *name) {
+static void open_szg(void) {
+    szg_close_folders(folders);
+    if (szg_open_folders(folder, &folders) != SZG_DONE) fail(folder);
+}
+
+/* ---- What the calls say of a position; a number that is no result is refused by the comparison */
+static int64_t stored(const struct position *p, bool dtz) {
+    int64_t outcome = 1000;
+    szg_probe(&tables[dtz].table, p->men, (size_t)men_count, p->mover, p->wdl, &outcome);
+    return outcome;
+}
+static int64_t stored_by_front(const struct position *p, bool dtz) {
+    szg_bad_block bad;
+    int64_t outcome = 1000;
+    szg_front_probe(&tables[dtz].front, tables[dtz].bytes, tables[dtz].length, p->men, (size_t)men_count, p->mover, p->wdl, &outcome, &bad);
+    return outcome;
+}
+static int64_t stored_wdl(const struct position *p) { return stored(p, false); }
+static int64_t stored_dtz(const struct position *p) { return stored(p, true); }
+static int64_t front_wdl(const struct position *p) { return stored_by_front(p, false); }
+static int64_t front_dtz(const struct position *p) { return stored_by_front(p, true); }
+static int64_t szg_wdl(const struct position *p) {
+    szg_missing missing;
+    int8_t class_of_position = 100;
+    szg_folders_wdl(folders, p->men, (size_t)men_count, p->mover, SZG_NO_SQUARE, &class_of_position, &missing);
+    return class_of_position + 2;
+}
+static int64_t szg_dtz(const struct position *p) {
+    szg_missing missing;
+    szg_distance distance = {0, 1000};
+    szg_folders_dtz(folders, p->men, (size_t)men_count, p->mover, SZG_NO_SQUARE, 0, &distance, &missing);
+    return llabs(distance.dtz);
+}
+static int64_t szg_moves(const struct position *p) {
+    szg_missing missing;
+    szg_move moves[SZG_MAX_MOVES];
+    size_t count = 0;
+    szg_folders_moves(folders, p->men, (size_t)men_count, p->mover, SZG_NO_SQUARE, 0, moves, SZG_MAX_MOVES, &count, &missing);
+    return (int64_t)count;
+}
+#ifdef FATHOM
+static void open_fathom(void) {
+    if (!tb_init(folder)) fail("Fathom reads no tables there");
+}
+static int64_t fathom_stored_wdl(const struct position *p) {
+    int success = 1;
+    return probe_table(&p->fathom, 0, &success, FATHOM_WDL);
+}
+static int64_t fathom_stored_dtz(const struct position *p) {
+    int success = 1;
+    return probe_table(&p->fathom, p->wdl, &success, FATHOM_DTZ);
+}
+static int64_t fathom_class(const struct position *p) { return fathom_wdl(&p->fathom); }
+static int64_t fathom_dtz(const struct position *p) { return TB_GET_DTZ(fathom_root(&p->fathom, NULL)); }
+static int64_t fathom_moves(const struct position *p) {
+    unsigned results[TB_MAX_MOVES];
+    int64_t count = 0;
+    fathom_root(&p->fathom, results);
+    while (results[count] != TB_RESULT_FAILED) count++;
+    return count;
+}
+#endif
+
+/* ---- Lists of positions */
+static void draw_positions(const char *name) {
     uint64_t state = 1;
-    for (int i = 0, wdl = 0, dtz = 0; wdl < PLACEMENTS || dtz < PLACEMENTS; i++) {
-        struct placement p = {.number = 0};
-        int64_t class_of_position = 0;
+    for (int drawn = 0; all.count < POSITIONS; drawn++) {
+        struct position p = {.mover = draw(&state) & 1};
+        if (drawn == MOST_DRAWN) fail("too few of the table's positions have results");
         men_count = draw_men(name, p.men, &state);
-        p.mover = draw(&state) & 1;
-        if (i == 100 * PLACEMENTS || szg_probe(&wdl_table.table, p.men, (size_t)men_count, p.mover, 0, &class_of_position) != SZG_DONE)
-            fail("the table has too few of these placements");
-        p.wdl = (int8_t)class_of_position;
-        if (wdl < PLACEMENTS) for_wdl[wdl++] = p;
-        if (dtz < PLACEMENTS && szg_probe(&dtz_table.table, p.men, (size_t)men_count, p.mover, p.wdl, &p.number) == SZG_DONE)
-            for_dtz[dtz++] = p;
-    }
-}
-
-static int64_t sum_by_szg(bool dtz) {
-    int64_t sum = 0;
-    for (int i = 0; i < PLACEMENTS; i++) {
-        const struct placement *p = dtz ? &for_dtz[i] : &for_wdl[i];
-        int64_t outcome = 0;
-        szg_probe(dtz ? &dtz_table.table : &wdl_table.table, p->men, (size_t)men_count, p->mover, p->wdl, &outcome);
-        sum = 31 * sum + outcome;
-    }
-    return sum;
-}
-
-/* The same by an opened front, each block verified. */
-static int64_t sum_by_front(bool dtz) {
-    struct opened *t = dtz ? &dtz_table : &wdl_table;
-    int64_t sum = 0;
-    for (int i = 0; i < PLACEMENTS; i++) {
-        const struct placement *p = dtz ? &for_dtz[i] : &for_wdl[i];
-        szg_bad_block bad;
-        int64_t outcome = 0;
-        szg_front_probe(&t->front, t->bytes, t->length, p->men, (size_t)men_count, p->mover, p->wdl, &outcome, &bad);
-        sum = 31 * sum + outcome;
-    }
-    return sum;
-}
-
+        if (szg_wdl(&p) > 4) continue;
 #ifdef FATHOM
-static fathom_position positions[PLACEMENTS];
-
-static void make_positions(bool dtz) {
-    for (int i = 0; i < PLACEMENTS; i++) {
-        const struct placement *p = dtz ? &for_dtz[i] : &for_wdl[i];
-        positions[i] = fathom_of(p->men, men_count, p->mover);
-        int success = 1, outcome = probe_table(&positions[i], p->wdl, &success, dtz ? FATHOM_DTZ : FATHOM_WDL);
-        if (success != 1 || outcome != (dtz ? p->number : p->wdl)) fail("Fathom has another value");
+        p.fathom = fathom_of(p.men, men_count, p.mover);
+#endif
+        p.wdl = (int8_t)stored_wdl(&p);
+        all.positions[all.count++] = p;
+        if (stored_dtz(&p) < 1000) with_number.positions[with_number.count++] = p;
+        if (with_moves.count < WITH_MOVES && szg_moves(&p) > 0) with_moves.positions[with_moves.count++] = p;
     }
 }
 
-static int64_t sum_by_fathom(bool dtz) {
-    int64_t sum = 0;
-    for (int i = 0; i < PLACEMENTS; i++) {
-        int success = 1;
-        sum = 31 * sum + probe_table(&positions[i], dtz ? for_dtz[i].wdl : 0, &success, dtz ? FATHOM_DTZ : FATHOM_WDL);
+/* Lists positions in blocks of the WDL table that none before them is in. */
+static void list_first_looks(void) {
+    szg_spot spot;
+    szg_byte_range range;
+    uint8_t *is_seen = calloc(tables[0].length, 1);
+    if (!is_seen) fail("no memory");
+    for (int i = 0; i < all.count; i++) {
+        const struct position *p = &all.positions[i];
+        if (szg_front_index(&tables[0].front, p->men, (size_t)men_count, p->mover, &spot) != SZG_DONE ||
+            szg_front_find(&tables[0].front, spot.part, spot.side, spot.index, &range) != SZG_DONE)
+            fail("a position isn't in the table");
+        if (i >= WARM && !is_seen[range.offset]) first_looks.positions[first_looks.count++] = *p;
+        is_seen[range.offset] = 1;
     }
+    free(is_seen);
+}
+
+/* ---- Times */
+struct side {
+    const char *call;
+    int64_t (*probe)(const struct position *p);
+    void (*open)(void);
+};
+
+static int64_t sum_of(const struct list *list, int count, const struct side *side) {
+    int64_t sum = 0;
+    for (int i = 0; i < count; i++) sum = 31 * sum + side->probe(&list->positions[i]);
     return sum;
 }
-#endif
 
-/* The least time of a probe, in nanoseconds. */
-static double best_time(int64_t (*sum)(bool), bool dtz, double best) {
-    int64_t due = sum_by_szg(dtz);
+/* Keeps the least time of a position, in nanoseconds, and returns the sum of the results. */
+static int64_t time_once(const struct list *list, const struct side *side, bool is_first_look, double *best) {
+    if (is_first_look) {
+        side->open();
+        sum_of(&all, WARM, side);
+    }
     double t0 = now();
-    if (sum(dtz) != due) fail("the sums differ");
-    double time = (now() - t0) / PLACEMENTS * 1e9;
-    return time < best ? time : best;
+    int64_t sum = sum_of(list, list->count, side);
+    least(best, (now() - t0) / list->count * 1e9);
+    return sum;
 }
 
-static void time_kind(const char *name, const char *plan, bool dtz) {
-    double szg = 1e9, front = 1e9;
-    const char *kind = dtz ? "dtz" : "wdl";
-#ifdef FATHOM
-    double fathom = 1e9;
-    make_positions(dtz);
-#endif
-    for (int round = 0; round < ROUNDS; round++) {
-#ifdef FATHOM
-        fathom = best_time(sum_by_fathom, dtz, fathom);
-#endif
-        szg = best_time(sum_by_szg, dtz, szg);
-        front = best_time(sum_by_front, dtz, front);
-    }
-    printf("%s%s %s: szg_probe %.1f ns a probe, szg_front_probe %.1f ns", name, plan, kind, szg, front);
-#ifdef FATHOM
-    printf(", Fathom %.1f ns, ratios %.2f and %.2f", fathom, szg / fathom, front / fathom);
-#endif
-    printf("\n");
-}
+static const struct {
+    const char *what;
+    const struct list *list;
+    bool is_first_look;
+    struct side szg, fathom;
+} ROWS[] = {
+    {"stored wdl", &all, false, {"szg_probe", stored_wdl, NULL}, PEER("probe_table", fathom_stored_wdl)},
+    {"stored wdl", &all, false, {"szg_front_probe", front_wdl, NULL}, PEER("probe_table", fathom_stored_wdl)},
+    {"stored dtz", &with_number, false, {"szg_probe", stored_dtz, NULL}, PEER("probe_table", fathom_stored_dtz)},
+    {"stored dtz", &with_number, false, {"szg_front_probe", front_dtz, NULL}, PEER("probe_table", fathom_stored_dtz)},
+    {"wdl", &all, false, {"szg_folders_wdl", szg_wdl, open_szg}, PEER("tb_probe_wdl", fathom_class)},
+    {"first look", &first_looks, true, {"szg_folders_wdl", szg_wdl, open_szg}, PEER("tb_probe_wdl", fathom_class)},
+    {"dtz", &with_moves, false, {"szg_folders_dtz", szg_dtz, open_szg}, PEER("tb_probe_root", fathom_dtz)},
+    {"moves", &with_moves, false, {"szg_folders_moves", szg_moves, open_szg}, PEER("tb_probe_root with its moves", fathom_moves)},
+};
 
 int main(int count, char **words) {
     if (count != 3 && count != 4) return fprintf(stderr, "probe FOLDER NAME [PLAN]\n"), 2;
-    const char *plan = count == 4 ? words[3] : "";
+    const char *name = words[2];
+    folder = words[1];
+    open_szg();
+    open_tables(name);
 #ifdef FATHOM
-    if (!tb_init(words[1])) fail("Fathom reads no tables there");
+    open_fathom();
 #endif
-    open_table(words[1], words[2], false, &wdl_table);
-    open_table(words[1], words[2], true, &dtz_table);
-    draw_placements(words[2]);
-    time_kind(words[2], plan, false);
-    time_kind(words[2], plan, true);
-    for (int dtz = 0; dtz < 2; dtz++) {
-        struct opened *t = dtz ? &dtz_table : &wdl_table;
-        szg_close(&t->table);
-        szg_close_front(&t->front);
-        free(t->bytes);
+    draw_positions(name);
+    list_first_looks();
+    for (size_t i = 0; i < sizeof ROWS / sizeof *ROWS; i++) {
+        if (ROWS[i].list->count == 0) continue;
+        double szg = 0, fathom = 0;
+        for (int round = 0; round < ROUNDS; round++) {
+            int64_t sum = time_once(ROWS[i].list, &ROWS[i].szg, ROWS[i].is_first_look, &szg);
+            if (ROWS[i].fathom.probe && time_once(ROWS[i].list, &ROWS[i].fathom, ROWS[i].is_first_look, &fathom) != sum) fail("the results differ");
+        }
+        printf("%s%s %s: ", name, count == 4 ? words[3] : "", ROWS[i].what);
+        if (fathom > 0) printf("ratio %.2f, ", szg / fathom);
+        printf("%s %.1f ns", ROWS[i].szg.call, szg);
+        if (fathom > 0) printf(", %s of Fathom %.1f ns", ROWS[i].fathom.call, fathom);
+        printf(", %d positions\n", ROWS[i].list->count);
     }
+    szg_close_folders(folders);
+    for (int dtz = 0; dtz < 2; dtz++) szg_close(&tables[dtz].table), szg_close_front(&tables[dtz].front), free(tables[dtz].bytes);
     return 0;
 }

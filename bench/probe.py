@@ -1,5 +1,5 @@
 #!/usr/bin/env python3
-"""Times classes of random positions by the Python package: tablebase.py FOLDER NAME
+"""Times classes of random positions by the Python package: probe.py FOLDER NAME
 
 Prints the least time of a FEN in several rounds, by probe_wdl and by probe_many. PYTHONPATH has the package, SZG_LIBRARY the
 shared library."""
@@ -9,6 +9,7 @@ import time
 from pathlib import Path
 
 sys.path.insert(0, str(Path(__file__).resolve().parent.parent / "checks"))
+import chess_rules  # noqa: E402
 from common import arguments  # noqa: E402
 
 POSITIONS, ROUNDS = 10000, 7
@@ -17,10 +18,8 @@ POSITIONS, ROUNDS = 10000, 7
 def draw_fen(rng, name):
     """A text of the name's men on random squares, which needn't be a position."""
     first, second = name.split("v")
-    board = ["1"] * 64
-    for man, square in zip(first + second.lower(), rng.sample(range(64), len(name) - 1)):
-        board[square] = man
-    return "/".join("".join(board[row : row + 8]) for row in range(0, 64, 8)) + f" {rng.choice('wb')} - - 0 1"
+    squares = [divmod(square, 8) for square in rng.sample(range(64), len(name) - 1)]
+    return f"{chess_rules.Board(dict(zip(squares, first + second.lower())), rng.choice('wb'), None).fen()} 0 1"
 
 
 def is_position(tables, fen):
