@@ -1,14 +1,19 @@
-"""What the Python scripts of this repository share: its folder and program, builds and compilers, lies of checks/lies/, and the
+"""What the Python scripts of this repository share: its folder and program, builds and compilers, terminals, lies of checks/lies/, and the
 count of what was compared. With --help a script prints the text that it begins with."""
 import argparse
+import contextlib
 import os
+import pty
 import re
+import resource
 import shutil
+import signal
 import stat
 import subprocess
 import sys
+import threading
 from pathlib import Path
-from typing import Any, BinaryIO, Callable, Dict, Iterable, List, Union
+from typing import Any, BinaryIO, Callable, Dict, Iterable, List, Optional, Union
 
 import __main__
 
@@ -157,6 +162,41 @@ def shortened(answer: Any) -> Any:
     if isinstance(answer, tuple):
         return tuple(map(shortened, answer))
     return answer[:300] + b".." if isinstance(answer, bytes) and len(answer) > 300 else answer
+
+
+def limit_files(most: int) -> None:
+    """Lets this process write no file beyond a size, and fail where it tries."""
+    signal.signal(signal.SIGXFSZ, signal.SIG_IGN)
+    resource.setrlimit(resource.RLIMIT_FSIZE, (most, most))
+
+
+class Terminal:
+    """A terminal, and what is written on it. With `most` it hangs up once this number of bytes was written."""
+
+    END = b"(end)"
+
+    def __init__(self, most: Optional[int] = None) -> None:
+        self.here, self.there = pty.openpty()
+        self.most, self.shown = most, b""
+        self.reader = threading.Thread(target=self.read)
+        self.reader.start()
+
+    def read(self) -> None:
+        try:
+            while not self.shown.endswith(self.END) and (self.most is None or len(self.shown) < self.most) and (chunk := os.read(self.here, 4096)):
+                self.shown += chunk
+        except OSError:
+            pass
+        os.close(self.here)
+
+    def text(self) -> str:
+        """What was written, once nobody writes any more."""
+        # once this end is closed, what it still has may be lost, so it is closed after the last bytes were read
+        with contextlib.suppress(OSError):
+            os.write(self.there, self.END)
+        self.reader.join()
+        os.close(self.there)
+        return self.shown.removesuffix(self.END).decode()
 
 
 # ---- Lies: what a check must notice
