@@ -22,7 +22,7 @@ use szg_values::Material;
 
 /// How an answer is asked for.
 #[derive(Clone, Copy)]
-enum Form {
+enum ResultForm {
     Lines,
     Line,
     Object,
@@ -33,15 +33,15 @@ fn found(
     rt: &(impl Abort + Alloc<A = Global>),
     files: &[MemoryFile<'_>],
     words: &[&str],
-    form: Form,
+    form: ResultForm,
     fen: &str,
 ) -> String {
     let mut system = MemoryFiles { files, failures: 0 };
     let mut folders = Folders::new(rt.alloc(), words);
     let answer = match form {
-        Form::Lines => folders.text(rt.alloc(), &mut system, fen),
-        Form::Line => folders.line(rt.alloc(), &mut system, fen),
-        Form::Object => folders.object(rt.alloc(), &mut system, fen),
+        ResultForm::Lines => folders.text(rt.alloc(), &mut system, fen),
+        ResultForm::Line => folders.line(rt.alloc(), &mut system, fen),
+        ResultForm::Object => folders.object(rt.alloc(), &mut system, fen),
     };
     match answer {
         Ok(text) => text,
@@ -50,7 +50,7 @@ fn found(
 }
 
 /// A position's text, the form, and the answer.
-type Case<'a> = (&'a str, Form, &'a str);
+type Case<'a> = (&'a str, ResultForm, &'a str);
 
 /// The folder `t` answers what the cases say.
 fn check_cases(
@@ -82,74 +82,74 @@ fn at<'a>(path: &'a str, file: &'a Fixture) -> MemoryFile<'a> {
 const OF_A_FOLDER: [Case<'static>; 13] = [
     (
         MATE_IN_ONE,
-        Form::Line,
+        ResultForm::Line,
         "7k/8/5K2/8/8/8/8/6Q1 w - - 0 1\t2\t7\tg1g7\n",
     ),
     // 7 plies more than 94 are too many
     (
         "7k/8/5K2/8/8/8/8/6Q1 w - - 93 80",
-        Form::Line,
+        ResultForm::Line,
         "7k/8/5K2/8/8/8/8/6Q1 w - - 93 80\t2\t7\tg1g7\n",
     ),
     (
         "7k/8/5K2/8/8/8/8/6Q1 w - - 94 80",
-        Form::Line,
+        ResultForm::Line,
         "7k/8/5K2/8/8/8/8/6Q1 w - - 94 80\t1\t7\tg1g7\n",
     ),
     // the table says a loss
     (
         QUEEN_LOST,
-        Form::Line,
+        ResultForm::Line,
         "8/8/8/3Q4/3k4/8/8/K7 b - - 0 1\t0\t0\td4d5\n",
     ),
     (
         "7k/6Q1/5K2/8/8/8/8/8 b - -",
-        Form::Lines,
+        ResultForm::Lines,
         "result loss\ndtz -1\n",
     ),
     (
         "k7/8/1K6/4B3/8/8/8/8 b - -",
-        Form::Lines,
+        ResultForm::Lines,
         "result draw\ndtz 0\n",
     ),
     // the capture en passant is the only move, and White wins after it
     (
         "8/8/8/8/4Pp2/5N2/8/5K1k b - e3 0 1",
-        Form::Lines,
+        ResultForm::Lines,
         "result loss\ndtz -1\nf4e3\tfxe3\tloss\t-1\tzeroing\n",
     ),
     (
         "8/8/8/8/8/2k5/8/K2R4 w - - 0 1",
-        Form::Line,
+        ResultForm::Line,
         "refused missing table KRvK wdl",
     ),
     (
         "r3k3/8/8/8/8/8/8/4K3 b q - 0 1",
-        Form::Line,
+        ResultForm::Line,
         "refused fen: Castling",
     ),
     // two kings need no table
     (
         "8/8/8/8/8/8/8/K1k5 w - -",
-        Form::Lines,
+        ResultForm::Lines,
         "result draw\ndtz 0\na1a2\tKa2\tdraw\t0\n",
     ),
     // the capture is the only move, and two kings are left
     (
         "kQ6/8/8/8/8/8/8/7K b - - 0 1",
-        Form::Object,
+        ResultForm::Object,
         "{\"category\":\"draw\",\"dtz\":0,\"checkmate\":false,\"stalemate\":false,\"insufficient_material\":false,\"moves\":[\
         {\"uci\":\"a8b8\",\"san\":\"Kxb8\",\"zeroing\":true,\"category\":\"draw\",\"dtz\":0,\"checkmate\":false,\"stalemate\":false,\"insufficient_material\":true}]}\n",
     ),
     (
         "7k/6Q1/5K2/8/8/8/8/8 b - -",
-        Form::Object,
+        ResultForm::Object,
         "{\"category\":\"loss\",\"dtz\":-1,\"checkmate\":true,\"stalemate\":false,\"insufficient_material\":false,\"moves\":[]}\n",
     ),
     // no DTZ table of KNvKP is there: it is needed before the move, and not after it
     (
         "8/8/8/8/4Pp2/5N2/8/5K1k b - e3 0 1",
-        Form::Object,
+        ResultForm::Object,
         "{\"category\":\"loss\",\"dtz\":-1,\"checkmate\":false,\"stalemate\":false,\"insufficient_material\":false,\"moves\":[\
         {\"uci\":\"f4e3\",\"san\":\"fxe3\",\"zeroing\":true,\"category\":\"win\",\"dtz\":null,\"checkmate\":false,\"stalemate\":false,\"insufficient_material\":false}]}\n",
     ),
@@ -180,12 +180,12 @@ fn results_without_distances(rt: HostRuntime) {
         &[
             (
                 MATE_IN_ONE,
-                Form::Line,
+                ResultForm::Line,
                 "7k/8/5K2/8/8/8/8/6Q1 w - - 0 1\t2\t-\tg1g7\n",
             ),
             (
                 QUEEN_LOST,
-                Form::Line,
+                ResultForm::Line,
                 "8/8/8/3Q4/3k4/8/8/K7 b - - 0 1\t0\t-\td4d5\n",
             ),
         ],
@@ -195,7 +195,7 @@ fn results_without_distances(rt: HostRuntime) {
         &rt,
         &files,
         &["t/KRKQvK.rtbw", "t/KQvK.rtbw"],
-        Form::Line,
+        ResultForm::Line,
         QUEEN_LOST,
     );
     assert!(rt; text.as_str() == "8/8/8/3Q4/3k4/8/8/K7 b - - 0 1\t0\t-\td4d5\n");
@@ -242,7 +242,7 @@ fn a_damaged_block(rt: HostRuntime) {
         let offset = number.saturating_mul(32).saturating_add(320);
         let damaged = made(&rt, file.changed(rt.alloc(), &[(offset as usize, 0x80)]));
         let files = [at("t/KQvK.rtbw", &damaged)];
-        let text = found(&rt, &files, &["t"], Form::Line, MATE_IN_ONE);
+        let text = found(&rt, &files, &["t"], ResultForm::Line, MATE_IN_ONE);
         if number == block {
             let due = made(
                 &rt,
@@ -270,7 +270,7 @@ fn a_damaged_block_of_distances(rt: HostRuntime) {
     let changes = [(length, 0), (length.saturating_add(1), 1), (32, 0x9b)];
     let damaged = made(&rt, file.changed(rt.alloc(), &changes));
     let files = [at("t/KQvK.rtbw", &wdl), at("t/KQvK.rtbz", &damaged)];
-    let text = found(&rt, &files, &["t"], Form::Line, MATE_IN_ONE);
+    let text = found(&rt, &files, &["t"], ResultForm::Line, MATE_IN_ONE);
     let due = made(
         &rt,
         format!(in rt.alloc(); "refused block {block} of KQvK dtz at {offset}"),
@@ -290,7 +290,7 @@ fn tables_without_an_answer(rt: HostRuntime) {
     ] {
         let wdl = made(&rt, good.changed(rt.alloc(), &[change]));
         let files = [at("t/KQvK.rtbw", &wdl), at("t/KQvK.rtbz", &dtz)];
-        for form in [Form::Line, Form::Lines, Form::Object] {
+        for form in [ResultForm::Line, ResultForm::Lines, ResultForm::Object] {
             check_cases(&rt, &files, &[(fen, form, due)]);
         }
     }
@@ -307,10 +307,10 @@ fn the_first_folder_counts(rt: HostRuntime) {
         (["t", "u"], "8/8/8/3Q4/3k4/8/8/K7 b - - 0 1\t0\t-\td4d5\n"),
         (["u", "t"], "refused table KQvK wdl at 10: Truncated"),
     ] {
-        let text = found(&rt, &files, &words, Form::Line, QUEEN_LOST);
+        let text = found(&rt, &files, &words, ResultForm::Line, QUEEN_LOST);
         assert_eq!(rt; text.as_str(), due);
     }
-    for form in [Form::Line, Form::Lines, Form::Object] {
+    for form in [ResultForm::Line, ResultForm::Lines, ResultForm::Object] {
         let text = found(&rt, &files, &["t"], form, "9/8/8/8/8/8/8/8 w - -");
         assert_eq!(rt; text.as_str(), "refused fen: Letter");
     }
@@ -328,7 +328,7 @@ fn a_file_that_ends_early(rt: HostRuntime) {
         check_cases(
             &rt,
             &[at("t/KQvK.rtbw", &file)],
-            &[(MATE_IN_ONE, Form::Line, due)],
+            &[(MATE_IN_ONE, ResultForm::Line, due)],
         );
     }
 }
