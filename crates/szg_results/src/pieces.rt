@@ -29,7 +29,7 @@ pub(crate) enum Piece {
 
 /// A table's file at its first byte, and its path.
 #[derive(Drop)]
-struct Found<F> {
+struct TableFile<F> {
     path: String,
     file: F,
 }
@@ -80,7 +80,7 @@ fn find_file<S: FileSystem>(
     system: &mut S,
     words: &[&str],
     missing: &Missing,
-) -> Result<Option<Found<S::File>>, ResultStop>
+) -> Result<Option<TableFile<S::File>>, ResultStop>
     ensures content { S.content system.new ≡ S.content system.old }
     ensures absent { IfOk result (λ found. IfNone found (IsAbsent (S.content system.old) (map (λ word. word.now) words.now) missing.now.material missing.now.kind)) }
     ensures first { IfOk result (λ found. IfSome found (λ f. IsFirstPath (S.content system.old) (map (λ word. word.now) words.now) missing.now.material missing.now.kind (string_bytes f.path))) }
@@ -101,7 +101,7 @@ fn open_at<S: FileSystem>(
     system: &mut S,
     word: &str,
     missing: &Missing,
-) -> Result<Option<Found<S::File>>, ResultStop>
+) -> Result<Option<TableFile<S::File>>, ResultStop>
     ensures content { S.content system.new ≡ S.content system.old }
     ensures absent { IfOk result (λ found. IfNone found (IsAbsentAt (S.content system.old) missing.now.material missing.now.kind word.now)) }
     ensures path { IfOk result (λ found. IfSome found (λ f. path_of missing.now.material missing.now.kind word.now ≡ Some (string_bytes f.path))) }
@@ -112,7 +112,7 @@ fn open_at<S: FileSystem>(
         return Ok(None);
     };
     match system.open(path.as_str()) {
-        Ok(file) => Ok(Some(Found { path, file })),
+        Ok(file) => Ok(Some(TableFile { path, file })),
         Err(fault) if is_absent(&fault) => Ok(None),
         Err(fault) => Err(ResultStop::Failed(fault)),
     }
@@ -140,7 +140,7 @@ fn front_from<S: FileSystem>(
     alloc: Global,
     system: &S,
     missing: &Missing,
-    found: Found<S::File>,
+    found: TableFile<S::File>,
 ) -> Result<FetchedTable, ResultStop>
     requires { S.File.moved found.file ≡ [] }
     // where the system specifies the file's bytes, the front is theirs
@@ -150,7 +150,7 @@ fn front_from<S: FileSystem>(
     ensures path { IfOk result (λ t. t.path ≡ found.path) }
     ensures none { IfOk result (λ t. t.values.items ≡ []) }
 {
-    let Found { path, mut file } = found;
+    let TableFile { path, mut file } = found;
     let size = match system.len(&file) {
         Ok(size) => size,
         Err(fault) => return Err(ResultStop::Failed(fault)),

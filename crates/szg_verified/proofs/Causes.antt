@@ -13,21 +13,21 @@ use Rattle.szg_verify.specs.Materials.{leads_to}
 use Rattle.szg_verify.specs.Walk.{colored_men, number_count}
 use Rattle.szg_verified.specs.declared.verifying.Cause.{Cause}
 use Rattle.szg_verified.specs.declared.verifying.Cause.TheVariants.{Refused, NoTable, Missing, Unchecked}
-use Rattle.szg_verified.specs.declared.verifying.Finding.{Finding}
-use Rattle.szg_verified.specs.declared.verifying.Finding.TheVariants.{Verified, Logged, Failed}
+use Rattle.szg_verified.specs.declared.verifying.MaterialFinding.{MaterialFinding}
+use Rattle.szg_verified.specs.declared.verifying.MaterialFinding.TheVariants.{Verified, Logged, Failed}
 use Rattle.szg_verified.specs.declared.verifying.Unverified.{Unverified}
 use Rattle.szg_verified.specs.Verified.{AreCheckedIn, AreTrue, IsCause, IsCauseOf, IsCaused, IsCheckedIn, IsFinding, IsLoggedIn, materials_in}
 use Rattle.szg_verified.specs.Digests.{IsDigestOf}
 use Rattle.szg_verified.specs.Logs.{AreRecorded}
 
 -- what is found of a material that is found to be verified, or not
-pub verified_as : (tables : List Shown) (us : List Unverified) (log : Option (Bor (List ℕ))) (sides : Sides) (found : Finding) (positions : ℕ) → found ≡ Verified positions → IsFinding tables us log sides found → IsCheckedIn tables sides
+pub verified_as : (tables : List Shown) (us : List Unverified) (log : Option (Bor (List ℕ))) (sides : Sides) (found : MaterialFinding) (positions : ℕ) → found ≡ Verified positions → IsFinding tables us log sides found → IsCheckedIn tables sides
 verified_as tables us log sides found positions e h = subst (IsFinding tables us log sides) e h
 
-pub failed_as : (tables : List Shown) (us : List Unverified) (log : Option (Bor (List ℕ))) (sides : Sides) (found : Finding) (cause : Cause) → found ≡ Failed cause → IsFinding tables us log sides found → IsCauseOf tables us sides cause
+pub failed_as : (tables : List Shown) (us : List Unverified) (log : Option (Bor (List ℕ))) (sides : Sides) (found : MaterialFinding) (cause : Cause) → found ≡ Failed cause → IsFinding tables us log sides found → IsCauseOf tables us sides cause
 failed_as tables us log sides found cause e h = subst (IsFinding tables us log sides) e h
 
-pub logged_as : (tables : List Shown) (us : List Unverified) (log : Option (Bor (List ℕ))) (sides : Sides) (found : Finding) (positions : ℕ) → found ≡ Logged positions → IsFinding tables us log sides found → IsLoggedIn log tables sides
+pub logged_as : (tables : List Shown) (us : List Unverified) (log : Option (Bor (List ℕ))) (sides : Sides) (found : MaterialFinding) (positions : ℕ) → found ≡ Logged positions → IsFinding tables us log sides found → IsLoggedIn log tables sides
 logged_as tables us log sides found positions e h = subst (IsFinding tables us log sides) e h
 
 -- a material that a log has

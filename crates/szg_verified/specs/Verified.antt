@@ -22,8 +22,8 @@ use Rattle.szg_verified.specs.Digests.{IsDigestOf}
 use Rattle.szg_verified.specs.Logs.{AreRecorded}
 use Rattle.szg_verified.specs.declared.verifying.Cause.{Cause}
 use Rattle.szg_verified.specs.declared.verifying.Cause.TheVariants.{Refused, NoTable, Missing, Unchecked}
-use Rattle.szg_verified.specs.declared.verifying.Finding.{Finding}
-use Rattle.szg_verified.specs.declared.verifying.Finding.TheVariants.{Verified, Logged, Failed}
+use Rattle.szg_verified.specs.declared.verifying.MaterialFinding.{MaterialFinding}
+use Rattle.szg_verified.specs.declared.verifying.MaterialFinding.TheVariants.{Verified, Logged, Failed}
 use Rattle.szg_verified.specs.declared.verifying.Unverified.{Unverified}
 use Rattle.szg_results.specs.Folders.{AreFetched, IsAbsent, IsReadFrom}
 use Rattle.szg_results.specs.Results.{IsAnswerOf, counted}
@@ -83,7 +83,7 @@ abbrev pub IsLoggedIn : Option (Bor (List ℕ)) → List Shown → Sides → Typ
 IsLoggedIn log tables sides = IsSomeAnd log (λ text. (digest : List ℕ) × IsDigestOf tables sides digest × AreRecorded text.now (name_of sides) digest)
 
 -- what was found of a material, after those that are not verified, and by a log
-abbrev pub IsFinding : List Shown → List Unverified → Option (Bor (List ℕ)) → Sides → Finding → Type 0
+abbrev pub IsFinding : List Shown → List Unverified → Option (Bor (List ℕ)) → Sides → MaterialFinding → Type 0
 IsFinding tables unverified log sides (Verified positions) = IsCheckedIn tables sides
 IsFinding tables unverified log sides (Logged positions) = IsLoggedIn log tables sides
 IsFinding tables unverified log sides (Failed cause) = IsCauseOf tables unverified sides cause

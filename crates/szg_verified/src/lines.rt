@@ -1,6 +1,6 @@
 //! The lines of a verification.
 
-use crate::verifying::{Cause, Finding, VerifiedCounts};
+use crate::verifying::{Cause, MaterialFinding, VerifiedCounts};
 use std::alloc::{AllocError, Global};
 use szg_results::{ResultStop, stop_text};
 use szg_tables::{Missing, MissingReason};
@@ -11,15 +11,17 @@ use szg_verify::Shard;
 pub fn material_line(
     alloc: Global,
     material: &Material,
-    found: &Finding,
+    found: &MaterialFinding,
     digest: &str,
 ) -> Result<String, AllocError> {
     let name = material.name();
     let name = name.as_str();
     match found {
-        Finding::Verified(positions) => verified_line(alloc, name, "", *positions, digest),
-        Finding::Logged(positions) => verified_line(alloc, name, "logged: ", *positions, digest),
-        Finding::Failed(cause) => cause_line(alloc, name, cause),
+        MaterialFinding::Verified(positions) => verified_line(alloc, name, "", *positions, digest),
+        MaterialFinding::Logged(positions) => verified_line(
+            alloc, name, "logged: ", *positions, digest,
+        ),
+        MaterialFinding::Failed(cause) => cause_line(alloc, name, cause),
     }
 }
 

@@ -54,7 +54,7 @@ pub enum Cause {
 
 /// What was found of a material.
 #[derive(Drop)]
-pub enum Finding {
+pub enum MaterialFinding {
     /// This number of positions was checked, and each passes.
     Verified(u64),
     /// A log says that this number of positions was checked, with the same tables.
@@ -74,7 +74,7 @@ pub struct Unverified {
 
 /// What a verification of materials found.
 #[derive(Drop)]
-pub struct Outcome {
+pub struct VerifiedMaterials {
     /// Whether all are verified.
     pub is_all: bool,
     /// Those that are not, in the order of the materials.
@@ -107,7 +107,7 @@ pub fn verify_materials<W: Write, P: Progress>(
     log: Option<&str>,
     output: &mut W,
     progress: &mut P,
-) -> io::Result<Outcome>
+) -> io::Result<VerifiedMaterials>
     ensures true_tables { IfOk result (λ found. IsTrue found.is_all → AreCheckedIn tables.now found.logged.items → AreTrue tables.now materials.now) }
     ensures caused { IfOk result (λ found. All (IsCaused tables.now materials.now found.unverified.items) found.unverified.items) }
     ensures all { IfOk result (λ found. found.is_all ≡ is_whole materials.now found.unverified.items) }
@@ -133,9 +133,9 @@ pub fn verify_materials<W: Write, P: Progress>(
         output.flush()?;
         tally = counted(tally, &found);
         match found {
-            Finding::Verified(_) => {}
-            Finding::Logged(_) => logged.push(material.copy())?,
-            Finding::Failed(cause) => unverified.push(Unverified {
+            MaterialFinding::Verified(_) => {}
+            MaterialFinding::Logged(_) => logged.push(material.copy())?,
+            MaterialFinding::Failed(cause) => unverified.push(Unverified {
                 material: material.copy(),
                 cause,
             })?,
@@ -145,7 +145,7 @@ pub fn verify_materials<W: Write, P: Progress>(
     let line = summary_line(alloc, is_all, &tally)?;
     output.write_all(line.as_bytes())?;
     output.flush()?;
-    Ok(Outcome {
+    Ok(VerifiedMaterials {
         is_all,
         unverified,
         logged,
@@ -153,18 +153,18 @@ pub fn verify_materials<W: Write, P: Progress>(
 }
 
 /// Counts what was found of one more material.
-fn counted(tally: VerifiedCounts, found: &Finding) -> VerifiedCounts {
+fn counted(tally: VerifiedCounts, found: &MaterialFinding) -> VerifiedCounts {
     match found {
-        Finding::Verified(positions) => VerifiedCounts {
+        MaterialFinding::Verified(positions) => VerifiedCounts {
             verified: tally.verified.saturating_add(1),
             positions: tally.positions.saturating_add(*positions),
             ..tally
         },
-        Finding::Logged(_) => VerifiedCounts {
+        MaterialFinding::Logged(_) => VerifiedCounts {
             logged: tally.logged.saturating_add(1),
             ..tally
         },
-        Finding::Failed(_) => tally,
+        MaterialFinding::Failed(_) => tally,
     }
 }
 
@@ -228,27 +228,27 @@ fn verify_material<P: Progress>(
     log: Option<&str>,
     digest: &str,
     progress: &mut P,
-) -> Result<Finding, AllocError>
+) -> Result<MaterialFinding, AllocError>
     requires { IsDigestOf tables.now material.now digest.now }
     ensures found { IfOk result (λ found. IsFinding tables.now unverified.now log.entry material.now found) }
     // A material that leads to one that is not verified is not looked at.
-    ensures unchecked { IfOk result (λ found. IfSome (find (leads_to material.now) (materials_in unverified.now)) (λ other. found ≡ Finding.Failed (Cause.Unchecked other))) }
+    ensures unchecked { IfOk result (λ found. IfSome (find (leads_to material.now) (materials_in unverified.now)) (λ other. found ≡ MaterialFinding.Failed (Cause.Unchecked other))) }
 {
     walk_is_whole();
     if let Some(other) = first_unverified(material, unverified) {
-        return Ok(Finding::Failed(Cause::Unchecked(other)));
+        return Ok(MaterialFinding::Failed(Cause::Unchecked(other)));
     }
     if let Some(text) = log {
         let name = material.name();
         if let Some(positions) = logged_positions(text, name.as_str(), digest) {
-            return Ok(Finding::Logged(positions));
+            return Ok(MaterialFinding::Logged(positions));
         }
     }
     let count = number_count(material);
     let walked = walk(alloc, tables, material, 0, count, progress)?;
     match walked {
-        Ok(positions) => Ok(Finding::Verified(positions)),
-        Err(cause) => Ok(Finding::Failed(cause)),
+        Ok(positions) => Ok(MaterialFinding::Verified(positions)),
+        Err(cause) => Ok(MaterialFinding::Failed(cause)),
     }
 }
 
