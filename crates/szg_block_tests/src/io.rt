@@ -325,6 +325,7 @@ fn only_expected_bytes_are_read_ahead(rt: HostRuntime) {
         (Some(6), 6, 3),
         (Some(100_000), 1, 1),
         (Some(2), 7, 2),
+        (None, 1, 1),
         (None, 5, 3),
     ] {
         if let Some(bytes) = expected {
@@ -333,7 +334,7 @@ fn only_expected_bytes_are_read_ahead(rt: HostRuntime) {
         check_taken_once(&rt, &mut input, &mut [0; 7][..size.min(7)], Ok(taken));
     }
     drop(input);
-    check_requests(&rt, &device, &[2, 5, 2, 4, 6, 65536, 5]);
+    check_requests(&rt, &device, &[2, 5, 2, 4, 6, 65536, 1, 5]);
 }
 
 /// What follows the expected bytes stays unread.
