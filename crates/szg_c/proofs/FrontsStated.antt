@@ -1,21 +1,17 @@
 -- What calls on an opened front return.
 use Rattle.std.proofs.Common.{◌≡◌, ◌<◌, ◌∙◌, ℕ, Bool, true, false, List, Option, None, Some, Ok, option_map, cond, inl, inr, refl, sym, subst}
 use Rattle.std.proofs.lemmas.Bool.{ltb-true}
-use Rattle.std.specs.Prelude.{◌⊎◌, nat_lt, is_some, IsSomeAnd, MatchOption}
+use Rattle.std.specs.Prelude.{◌⊎◌, ℤ, Err, nat_lt, is_some, IsSomeAnd, MatchOption}
 use Rattle.szg_values.specs.Material.{Sides, parsed}
 use Rattle.szg_file.specs.Contents.{Slot}
 use Rattle.szg_file.specs.FrontTable.{FrontKept, IsFrontOf}
 use Rattle.szg_file.specs.declared.opened.fetching.FetchFault.{FetchFault}
 use Rattle.szg_file.specs.declared.opened.fetching.FetchFault.TheVariants.{Block, Source}
-use Rattle.szg_file.specs.declared.fault.MapFault.{MapFault}
-use Rattle.szg_file.specs.declared.fault.MapFault.TheVariants.{Draw, OutsideMap}
-use Rattle.szg_place.specs.declared.PlaceFault.{PlaceFault}
-use Rattle.szg_place.specs.declared.PlaceFault.TheVariants.{OtherMaterial, Irregular, KingsTouch, WrongSide}
-use Rattle.szg_place.specs.declared.probes.Unprobed.TheVariants.{Fetch}
-use Rattle.szg_c.specs.Fronts.{FetchReported, IsFaultReported, IsFront, ReportsFront}
-use Rattle.szg_c.specs.Places.{map_status, place_status, with_slot}
+use Rattle.szg_c.specs.Fronts.{FetchReported, IsFront, IsOutcomeWritten, ReportsFront}
+use Rattle.szg_c.specs.Places.{with_slot}
 use Rattle.szg_c.specs.Reported.{IsName, kind_of_flag}
 use Rattle.szg_c.specs.declared.fronts.BadBlock.{BadBlock}
+use Rattle.szg_c.specs.declared.places.Unfound.TheVariants.{Fetch}
 
 abbrev is_below : Option ℕ → ℕ → Bool
 is_below None i = false
@@ -56,23 +52,13 @@ pub fetch_not_done : (fault : FetchFault) (before after : BadBlock) (status : �
 fetch_not_done (Block number offset) before after status h e = let k : ◌≡◌ {A = ℕ} 0 18 = sym e ∙ h.0 in cc k
 fetch_not_done Source before after status h e = let k : ◌≡◌ {A = ℕ} 0 17 = sym e ∙ h.0 in cc k
 
-pub report_probe_fault : (fault : FetchFault) (before after : BadBlock) (status : ℕ) → FetchReported fault before after status → IsFaultReported (Fetch fault) status after
-report_probe_fault (Block number offset) before after status h = h
-report_probe_fault Source before after status h = h.0
+pub fetch_written : (fault : FetchFault) (before after : BadBlock) (status : ℕ) (outcome : ℤ) → FetchReported fault before after status → IsOutcomeWritten (Err (Fetch fault)) status outcome after
+fetch_written (Block number offset) before after status outcome h = h
+fetch_written Source before after status outcome h = h.0
 
 pub bad_stays : (fault : FetchFault) (before after : BadBlock) (status : ℕ) → FetchReported fault before after status → (status ≡ 18 → ⊥) → after ≡ before
 bad_stays (Block number offset) before after status h other = absurd (other h.0)
 bad_stays Source before after status h other = h.1
-
-pub place_not_done : (why : PlaceFault) → place_status why ≡ 0 → ⊥
-place_not_done OtherMaterial e = cc e
-place_not_done Irregular e = cc e
-place_not_done KingsTouch e = cc e
-place_not_done WrongSide e = cc e
-
-pub map_not_done : (why : MapFault) → map_status why ≡ 0 → ⊥
-map_not_done Draw e = cc e
-map_not_done OutsideMap e = cc e
 
 -- the front of the bytes, by the name that was given
 pub is_front : (name : List ℕ) (dtz : Bool) (bytes : List ℕ) (material : Sides) (kept : FrontKept) → parsed name ≡ Ok material → kept.index.material ≡ material → kept.index.kind ≡ kind_of_flag dtz → IsFrontOf kept bytes →

@@ -14,5 +14,6 @@ pub mod MenOnBoard
 pub mod Values
 pub mod TableProbes
 pub mod LinesProbed
+pub mod Stopped
 mod Printing
 mod ReadPositions

@@ -2,7 +2,7 @@ pub mod Reported
 pub mod Lists
 pub mod Men
 pub mod Places
-pub mod Reporting
+pub mod Outcomes
 pub mod Owned
 pub mod Fronts
 pub mod FrontBlocks

@@ -1,21 +1,20 @@
 //! Calls on the placements of an opened front.
-ghost use Rattle.std.specs.Prelude.{◌≡◌, Err, IfSome, MatchResult, Ok};
+ghost use Rattle.std.specs.Prelude.{◌≡◌, IfSome, MatchResult};
 ghost use Rattle.std.specs.declared.option.Option.TheVariants.{None, Some};
-ghost use Rattle.szg_c.specs.Fronts.{IsClassReported, IsFaultReported, IsNumberReported, IsOutcome, IsOutcomeReported};
+ghost use Rattle.szg_c.specs.Fronts.{IsOutcomeReported};
 ghost use Rattle.szg_c.specs.Men.{board_of};
 ghost use Rattle.szg_c.specs.Places.{IsSpot, number_result, spot_result};
 
 use crate::fronts::{BadBlock, fetch_status};
 use crate::handle::{find, put, take, write};
 use crate::held_front::HeldFront;
-use crate::men::{RawMan, key_of_men, placement_or_fault, sound_men};
-use crate::places::{FoundSpot, is_class, map_status, place_status, write_spot};
-use crate::status::{CLOSED, DONE, NO_CLASS, RANGE};
-use arrayvec::ArrayVec;
+use crate::men::RawMan;
+use crate::places::{FoundSpot, Unfound, is_class, map_status, outcome_of_men, write_spot};
+use crate::status::{CLOSED, DONE, RANGE};
 use std::alloc::Global;
-use szg_file::{FetchFault, FrontTable, TableIndex};
-use szg_place::{FrontBytes, Unprobed, probe_class, probe_number};
-use szg_values::{Kind, PlacedMen};
+use szg_file::{FrontTable, TableIndex};
+use szg_place::FrontBytes;
+use szg_values::Kind;
 
 /// The part, side and index of these men with this mover.
 ///
@@ -103,12 +102,13 @@ pub extern "C" fn szg_front_probe(
     let Some(held) = take(front, alloc) else {
         return CLOSED;
     };
-    let status = outcome_in(held.value(), bytes, men, mover, class, outcome, bad);
+    let status = write_outcome(held.value(), bytes, men, mover, class, outcome, bad);
     put(front, held);
     status
 }
 
-fn outcome_in(
+/// Writes the class or the number of men, out of the file's bytes; returns the status. A bad block is written to `bad`.
+fn write_outcome(
     table: &FrontTable,
     bytes: &[u8],
     men: &[RawMan],
@@ -121,133 +121,16 @@ fn outcome_in(
     ensures outcome_stays { (result ≡ 0 → ⊥) → outcome.new ≡ outcome.old }
     ensures bad_stays { (result ≡ 18 → ⊥) → bad.new ≡ bad.old }
 {
-    let mut placed_men = ArrayVec::new();
-    let Some(key) = key_of_men(men, mover, &mut placed_men) else {
-        return outcome_or_fault(table, bytes, men, mover, class, outcome, bad);
+    let values = FrontBytes {
+        front: table,
+        bytes,
     };
-    let Some(placement) = sound_men(men, mover, &placed_men, key) else {
-        return outcome_or_fault(table, bytes, men, mover, class, outcome, bad);
-    };
-    outcome_of(table, bytes, &placement, class, outcome, bad)
-}
-
-/// The same, by one check of the men after the other.
-#[inline(never)]
-fn outcome_or_fault(
-    table: &FrontTable,
-    bytes: &[u8],
-    men: &[RawMan],
-    mover: u8,
-    class: i8,
-    outcome: &mut i64,
-    bad: &mut BadBlock,
-) -> u32
-    ensures reported { IsOutcomeReported table.now bytes.now class (board_of men.now mover) result outcome.new bad.new }
-    ensures outcome_stays { (result ≡ 0 → ⊥) → outcome.new ≡ outcome.old }
-    ensures bad_stays { (result ≡ 18 → ⊥) → bad.new ≡ bad.old }
-{
-    match placement_or_fault(men, mover) {
-        Ok(placement) => {
-            let men = PlacedMen::of(&placement);
-            outcome_of(table, bytes, &men, class, outcome, bad)
-        }
-        // a status of men is not 0 and not 18
-        Err(status) => status,
-    }
-}
-
-fn outcome_of(
-    table: &FrontTable,
-    bytes: &[u8],
-    placement: &PlacedMen<'_>,
-    class: i8,
-    outcome: &mut i64,
-    bad: &mut BadBlock,
-) -> u32
-    ensures reported { IsOutcome table.now.index.kind table.now bytes.now class placement.now result outcome.new bad.new }
-    ensures outcome_stays { (result ≡ 0 → ⊥) → outcome.new ≡ outcome.old }
-    ensures bad_stays { (result ≡ 18 → ⊥) → bad.new ≡ bad.old }
-{
-    match table.index().kind() {
-        Kind::Wdl => class_stated(
-            probe_class(
-                FrontBytes {
-                    front: table,
-                    bytes,
-                },
-                placement,
-            ),
-            outcome,
-            bad,
-        ),
-        Kind::Dtz => {
-            if !is_class(class) {
-                return RANGE;
-            }
-            number_result(
-                probe_number(
-                    FrontBytes {
-                        front: table,
-                        bytes,
-                    },
-                    placement,
-                    class,
-                ),
-                outcome,
-                bad,
-            )
-        }
-    }
-}
-
-/// Writes a class; returns the status.
-fn class_stated(
-    reported: Result<Option<i8>, Unprobed<FetchFault>>,
-    outcome: &mut i64,
-    bad: &mut BadBlock,
-) -> u32
-    ensures reported { IsClassReported reported result outcome.new bad.new }
-    ensures outcome_stays { (result ≡ 0 → ⊥) → outcome.new ≡ outcome.old }
-    ensures bad_stays { (result ≡ 18 → ⊥) → bad.new ≡ bad.old }
-{
-    match reported {
-        Ok(Some(class)) => {
-            *outcome = i64::from(class);
-            DONE
-        }
-        Ok(None) => NO_CLASS,
-        Err(fault) => report_probe_fault(fault, bad),
-    }
-}
-
-/// Writes a number; returns the status.
-fn number_result(
-    reported: Result<u32, Unprobed<FetchFault>>,
-    outcome: &mut i64,
-    bad: &mut BadBlock,
-) -> u32
-    ensures reported { IsNumberReported reported result outcome.new bad.new }
-    ensures outcome_stays { (result ≡ 0 → ⊥) → outcome.new ≡ outcome.old }
-    ensures bad_stays { (result ≡ 18 → ⊥) → bad.new ≡ bad.old }
-{
-    match reported {
+    match outcome_of_men(values, men, mover, class) {
         Ok(number) => {
-            *outcome = i64::from(number);
+            *outcome = number;
             DONE
         }
-        Err(fault) => report_probe_fault(fault, bad),
-    }
-}
-
-/// The status of a fault of a probe; a bad block is written to `bad`.
-fn report_probe_fault(fault: Unprobed<FetchFault>, bad: &mut BadBlock) -> u32
-    ensures reported { IsFaultReported fault result bad.new }
-    ensures stays { (result ≡ 18 → ⊥) → bad.new ≡ bad.old }
-    ensures not_done { result ≡ 0 → ⊥ }
-{
-    match fault {
-        Unprobed::Place(why) => place_status(why),
-        Unprobed::Map(why) => map_status(why),
-        Unprobed::Fetch(why) => fetch_status(why, bad),
+        Err(Unfound::Status(status)) => status,
+        Err(Unfound::Fetch(fault)) => fetch_status(fault, bad),
     }
 }

@@ -3,17 +3,19 @@ ghost use Rattle.std.specs.Prelude.{◌≡◌, ◌⊎◌, IfErr, IfOk, IfSome, I
 ghost use Rattle.std.specs.declared.option.Option.TheVariants.{None, Some};
 ghost use Rattle.szg_file.specs.FrontTable.{IsFrontOf};
 ghost use Rattle.szg_file.specs.Index.{slot_in};
-ghost use Rattle.szg_c.specs.Fronts.{FetchReported, IsFront, IsGot, ReportsFront, StopsFront, greatest_span_bits, span_bits_of};
+ghost use Rattle.szg_file.specs.Unread.{unread_file};
+ghost use Rattle.szg_c.specs.Fronts.{FetchReported, IsFront, IsGot, ReportsFront, greatest_span_bits, span_bits_of};
 ghost use Rattle.szg_c.specs.Places.{with_slot};
+ghost use Rattle.szg_c.specs.Reported.{Stops};
 
 use crate::handle::{find, hold, put, share, shut, take, write};
 use crate::held_front::HeldFront;
-use crate::opening::{RawAnswer, kind_of, material_of};
+use crate::opening::{RawAnswer, fault_status, kind_of, material_of};
 use crate::shared::Shared;
-use crate::status::{BAD_BLOCK, CHANGED, CLOSED, DONE, MEMORY, NAME, RANGE, REFUSED, number_of};
+use crate::status::{BAD_BLOCK, CHANGED, CLOSED, DONE, MEMORY, NAME, RANGE};
 use std::alloc::Global;
 use szg_block::Sub;
-use szg_file::{FetchFault, FrontTable, PlacedSub, ReadFault, TableIndex, open_front};
+use szg_file::{FetchFault, FrontTable, PlacedSub, TableIndex, open_front};
 use szg_io::Bytes;
 
 /// A block that doesn't decode.
@@ -35,7 +37,7 @@ fn front_in(
     answer: &mut RawAnswer,
 ) -> Result<FrontTable, u32>
     ensures front { IfOk result (IsFront name.now dtz bytes.now) }
-    ensures stops { IfErr result (λ status. StopsFront name.now dtz bytes.now status answer.new.place answer.new.reason) }
+    ensures stops { IfErr result (λ status. Stops unread_file name.now dtz bytes.now status answer.new.place answer.new.reason) }
     ensures kept { IfOk result (λ t. answer.new ≡ answer.old) }
     ensures stays { IfErr result (λ status. (status ≡ 2 → ⊥) → answer.new ≡ answer.old) }
 {
@@ -45,14 +47,7 @@ fn front_in(
     let size = bytes.len() as u64;
     match open_front(alloc, material, kind_of(dtz), size, &mut Bytes::new(bytes)) {
         Ok((table, _)) => Ok(table),
-        Err(ReadFault::Refused { place, reason }) => {
-            answer.place = place;
-            answer.reason = number_of(reason);
-            Err(REFUSED)
-        }
-        Err(ReadFault::Memory) => Err(MEMORY),
-        // bytes in memory never fail
-        Err(ReadFault::Device) => unreachable!(),
+        Err(fault) => Err(fault_status(fault, answer)),
     }
 }
 

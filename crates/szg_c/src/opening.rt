@@ -1,7 +1,9 @@
 //! Opening a table by its name and bytes.
-ghost use Rattle.std.specs.Prelude.{◌≡◌, Ok, MatchOption, IfOk, IfErr};
+ghost use Rattle.std.specs.Prelude.{◌≡◌, ◌≢◌, Ok, MatchOption, IfOk, IfErr};
 ghost use Rattle.szg_values.specs.Material.{parsed};
-ghost use Rattle.szg_c.specs.Reported.{kind_of_flag, IsNoName, IsTable, Stops};
+ghost use Rattle.szg_file.specs.File.{file};
+ghost use Rattle.szg_file.specs.declared.fault.ReadFault.TheVariants.{Device};
+ghost use Rattle.szg_c.specs.Reported.{kind_of_flag, IsFaultStatus, IsNoName, IsTable, Stops};
 
 use crate::status::{MEMORY, NAME, REFUSED, number_of};
 use std::alloc::Global;
@@ -35,6 +37,22 @@ pub fn material_of(name: &[u8]) -> Option<Material>
     Material::parse(text).ok()
 }
 
+/// Returns the status of a fault of bytes in memory, which never fail. Writes the offset and the reason of a refusal.
+pub fn fault_status(fault: ReadFault, answer: &mut RawAnswer) -> u32
+    requires { fault ≢ Device }
+    ensures { IsFaultStatus fault answer.old answer.new result }
+{
+    match fault {
+        ReadFault::Refused { place, reason } => {
+            answer.place = place;
+            answer.reason = number_of(reason);
+            REFUSED
+        }
+        ReadFault::Memory => MEMORY,
+        ReadFault::Device => unreachable!(),
+    }
+}
+
 /// Opens the table of this name and kind that the bytes begin with. Errors: the status that says why there is none.
 pub fn open(
     alloc: Global,
@@ -44,7 +62,7 @@ pub fn open(
     answer: &mut RawAnswer,
 ) -> Result<Table, u32>
     ensures table { IfOk result (λ t. IsTable name.now dtz bytes.now t) }
-    ensures stops { IfErr result (λ status. Stops name.now dtz bytes.now status answer.new.place answer.new.reason) }
+    ensures stops { IfErr result (λ status. Stops file name.now dtz bytes.now status answer.new.place answer.new.reason) }
     ensures kept { IfOk result (λ t. answer.new ≡ answer.old) }
     ensures stays { IfErr result (λ status. (status ≡ 2 → ⊥) → answer.new ≡ answer.old) }
 {
@@ -53,13 +71,6 @@ pub fn open(
     };
     match read_bytes(alloc, material, kind_of(dtz), bytes) {
         Ok(table) => Ok(table),
-        Err(ReadFault::Refused { place, reason }) => {
-            answer.place = place;
-            answer.reason = number_of(reason);
-            Err(REFUSED)
-        }
-        Err(ReadFault::Memory) => Err(MEMORY),
-        // bytes in memory never fail
-        Err(ReadFault::Device) => unreachable!(),
+        Err(fault) => Err(fault_status(fault, answer)),
     }
 }

@@ -1,10 +1,10 @@
 //! Calls on a handle by placement.
-ghost use Rattle.std.specs.Prelude.{◌≡◌, pos, Result, Ok, Err, IfSome, MatchResult};
+ghost use Rattle.std.specs.Prelude.{◌≡◌, Ok, IfSome, MatchResult};
 ghost use Rattle.std.specs.declared.option.Option.TheVariants.{None, Some};
 ghost use Rattle.szg_file.specs.Index.{index_of};
 ghost use Rattle.szg_c.specs.Men.{board_of};
-ghost use Rattle.szg_c.specs.Places.{IsSpot, is_class, map_status as map_fault_status, outcome_of, outcome_result, place_status as place_fault_status, spot_result};
-ghost use Rattle.szg_c.specs.Reporting.{class_or_status, distance_or_status, fault_status};
+ghost use Rattle.szg_c.specs.Outcomes.{IsOutcome, IsOutcomeOfMen, class_or_status, distance_or_status, fault_or_status};
+ghost use Rattle.szg_c.specs.Places.{IsSpot, is_class, map_status as map_fault_status, outcome_result, place_status as place_fault_status, spot_result};
 
 use crate::handle::{put, take};
 use crate::held_table::HeldTable;
@@ -15,10 +15,9 @@ use crate::status::{
 };
 use arrayvec::ArrayVec;
 use std::alloc::Global;
-use std::convert::Infallible;
 use szg_file::typed::table_fits;
 use szg_file::{MapFault, Table, TableIndex};
-use szg_place::{PlaceFault, Unprobed, locate, probe_class, probe_number};
+use szg_place::{PlaceFault, Unprobed, Values, locate, probe_class, probe_number};
 use szg_values::{Kind, PlacedMen};
 
 /// The location of a placement in a table.
@@ -135,109 +134,112 @@ pub extern "C" fn szg_probe(
 fn write_outcome(table: &Table, men: &[RawMan], mover: u8, class: i8, outcome: &mut i64) -> u32
     ensures { MatchResult (outcome_result table.now.contents class (board_of men.now mover)) (λ n. (result ≡ 0) × (outcome.new ≡ n)) (λ status. (result ≡ status) × (outcome.new ≡ outcome.old)) }
 {
+    // for proofs alone: the numbers of an accepted table are those of its index
+    table_fits(table);
+    match outcome_of_men(table, men, mover, class) {
+        Ok(number) => {
+            *outcome = number;
+            DONE
+        }
+        Err(Unfound::Status(status)) => status,
+        Err(Unfound::Fetch(never)) => match never {},
+    }
+}
+
+/// Why men have no class and no distance: a status, or the fault of fetching a value.
+#[derive(Clone, Copy)]
+pub enum Unfound<F> {
+    /// The status.
+    Status(u32),
+    /// The value is not fetched.
+    Fetch(F),
+}
+
+/// Returns the class of men in a WDL table, their distance in a class in a DTZ table.
+#[inline(always)]
+pub fn outcome_of_men<V: Values + Drop>(
+    values: V,
+    men: &[RawMan],
+    mover: u8,
+    class: i8,
+) -> Result<i64, Unfound<V::Fault>>
+    ensures { IsOutcomeOfMen (V.index_in values) (V.is_value values) (V.is_fault values) class (board_of men.now mover) result }
+{
     let mut placed_men = ArrayVec::new();
     let Some(key) = key_of_men(men, mover, &mut placed_men) else {
-        return write_outcome_or_fault(table, men, mover, class, outcome);
+        return outcome_or_fault(values, men, mover, class);
     };
     let Some(placement) = sound_men(men, mover, &placed_men, key) else {
-        return write_outcome_or_fault(table, men, mover, class, outcome);
+        return outcome_or_fault(values, men, mover, class);
     };
-    write_outcome_of(table, &placement, class, outcome)
+    outcome_of(values, &placement, class)
 }
 
 /// The same, by one check of the men after the other.
 #[cold]
 #[inline(never)]
-fn write_outcome_or_fault(
-    table: &Table,
+fn outcome_or_fault<V: Values + Drop>(
+    values: V,
     men: &[RawMan],
     mover: u8,
     class: i8,
-    outcome: &mut i64,
-) -> u32
-    ensures { MatchResult (outcome_result table.now.contents class (board_of men.now mover)) (λ n. (result ≡ 0) × (outcome.new ≡ n)) (λ status. (result ≡ status) × (outcome.new ≡ outcome.old)) }
+) -> Result<i64, Unfound<V::Fault>>
+    ensures { IsOutcomeOfMen (V.index_in values) (V.is_value values) (V.is_fault values) class (board_of men.now mover) result }
 {
     match placement_or_fault(men, mover) {
-        Ok(placement) => write_outcome_of(table, &PlacedMen::of(&placement), class, outcome),
-        Err(status) => status,
+        Ok(placement) => outcome_of(values, &PlacedMen::of(&placement), class),
+        Err(status) => Err(Unfound::Status(status)),
     }
 }
 
-/// Writes the class or the distance of a placement in a table; returns the status.
+/// Returns the class or the distance of a placement.
 #[inline(always)]
-fn write_outcome_of(table: &Table, placement: &PlacedMen<'_>, class: i8, outcome: &mut i64) -> u32
-    ensures { MatchResult (outcome_result table.now.contents class (Ok placement.now)) (λ n. (result ≡ 0) × (outcome.new ≡ n)) (λ status. (result ≡ status) × (outcome.new ≡ outcome.old)) }
+fn outcome_of<V: Values + Drop>(
+    values: V,
+    placement: &PlacedMen<'_>,
+    class: i8,
+) -> Result<i64, Unfound<V::Fault>>
+    ensures { IsOutcome (V.index_in values).kind (V.index_in values) (V.is_value values) (V.is_fault values) class placement.now result }
 {
-    match outcome_of(table, placement, class) {
-        Ok(number) => {
-            *outcome = number;
-            DONE
+    match values.index().kind() {
+        Kind::Wdl => class_or_status(probe_class(values, placement)),
+        Kind::Dtz => {
+            if !is_class(class) {
+                return Err(Unfound::Status(RANGE));
+            }
+            distance_or_status(probe_number(values, placement, class))
         }
-        Err(status) => status,
     }
 }
 
 #[inline(always)]
-fn outcome_of(table: &Table, placement: &PlacedMen<'_>, class: i8) -> Result<i64, u32>
-    ensures { result ≡ outcome_of table.now.contents.kind table.now.contents class placement.now }
-{
-    match table.kind() {
-        Kind::Wdl => class_of(table, placement),
-        Kind::Dtz => distance_of(table, placement, class),
-    }
-}
-
-/// Returns the class of a placement in a WDL table.
-#[inline(always)]
-fn class_of(table: &Table, placement: &PlacedMen<'_>) -> Result<i64, u32>
-    requires { table.now.contents.kind ≡ Kind.Wdl }
-    ensures { result ≡ outcome_of Kind.Wdl table.now.contents (pos 0) placement.now }
-{
-    class_or_status(probe_class(table, placement))
-}
-
-#[inline(always)]
-fn class_or_status(reported: Result<Option<i8>, Unprobed<Infallible>>) -> Result<i64, u32>
+fn class_or_status<F>(reported: Result<Option<i8>, Unprobed<F>>) -> Result<i64, Unfound<F>>
     ensures { result ≡ class_or_status reported }
 {
     match reported {
         Ok(Some(class)) => Ok(i64::from(class)),
-        Ok(None) => Err(NO_CLASS),
-        Err(fault) => Err(fault_status(fault)),
+        Ok(None) => Err(Unfound::Status(NO_CLASS)),
+        Err(fault) => Err(fault_or_status(fault)),
     }
-}
-
-fn fault_status(fault: Unprobed<Infallible>) -> u32
-    ensures { result ≡ fault_status fault }
-{
-    match fault {
-        Unprobed::Place(fault) => place_status(fault),
-        Unprobed::Map(fault) => map_status(fault),
-        Unprobed::Fetch(never) => match never {},
-    }
-}
-
-/// Returns the distance of a placement in a class, in a DTZ table.
-#[inline(always)]
-fn distance_of(table: &Table, placement: &PlacedMen<'_>, class: i8) -> Result<i64, u32>
-    requires { table.now.contents.kind ≡ Kind.Dtz }
-    ensures { result ≡ outcome_of Kind.Dtz table.now.contents class placement.now }
-{
-    if !is_class(class) {
-        return Err(RANGE);
-    }
-    // for proofs alone: the numbers of an accepted table are those of its index
-    table_fits(table);
-    distance_or_status(probe_number(table, placement, class))
 }
 
 #[inline(always)]
-fn distance_or_status(reported: Result<u32, Unprobed<Infallible>>) -> Result<i64, u32>
+fn distance_or_status<F>(reported: Result<u32, Unprobed<F>>) -> Result<i64, Unfound<F>>
     ensures { result ≡ distance_or_status reported }
 {
     match reported {
         Ok(number) => Ok(i64::from(number)),
-        Err(fault) => Err(fault_status(fault)),
+        Err(fault) => Err(fault_or_status(fault)),
+    }
+}
+
+fn fault_or_status<F>(fault: Unprobed<F>) -> Unfound<F>
+    ensures { result ≡ fault_or_status fault }
+{
+    match fault {
+        Unprobed::Place(why) => Unfound::Status(place_status(why)),
+        Unprobed::Map(why) => Unfound::Status(map_status(why)),
+        Unprobed::Fetch(why) => Unfound::Fetch(why),
     }
 }
 

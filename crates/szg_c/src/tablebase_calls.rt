@@ -2,23 +2,23 @@
 //! capture en passant and the fifty-move counter.
 ghost use Rattle.std.specs.Prelude.{◌≡◌, ◌≤◌, ◌⊎◌, Err, IfErr, IfNone, IfOk, IfSome, MatchResult, Ok, length, map};
 ghost use Rattle.std.specs.declared.option.Option.TheVariants.{None, Some};
-ghost use Rattle.szg_c.specs.Fronts.{StopsFront};
+ghost use Rattle.szg_file.specs.Unread.{unread_file};
+ghost use Rattle.szg_c.specs.Reported.{Stops};
 ghost use Rattle.szg_c.specs.Tablebases.{IsAdded, IsClassProbed, IsDistanceProbed, IsMissingReported, IsRankedWritten, IsTableOf, files_of, position_of, position_status, promotion_code, raw_move};
 
 use crate::handle::{put, share, shut, take};
 use crate::held_tablebase::HeldTablebase;
 use crate::men::{RawMan, are_coded_men, color_of, key_of_men, placed_men, sound_men};
-use crate::opening::{RawAnswer, kind_of, material_of};
+use crate::opening::{RawAnswer, fault_status, kind_of, material_of};
 use crate::places::place_status;
 use crate::status::{
     BAD_BLOCK, CHANGED, CONTRADICTION, DONE, EN_PASSANT, IN_CHECK, MAN, MEMORY, MEN, MISSING, NAME,
-    NO_CLASS, PAWN_RANK, RANGE, REFUSED, SAME_SQUARE, number_of,
+    NO_CLASS, PAWN_RANK, RANGE, SAME_SQUARE,
 };
 use crate::texts::print;
 use arrayvec::ArrayVec;
 use std::alloc::Global;
 use szg_chess::{MAX_MOVES, Position, PositionFault};
-use szg_file::ReadFault;
 use szg_probe::{DistanceFault, RankedMove, probe_dtz, probe_wdl, rank_moves};
 use szg_tables::{MappedSet, MappedTable, Missing, MissingReason, number_of_class};
 use szg_values::{Kind, MAX_MEN, Man, Square};
@@ -78,7 +78,7 @@ fn opened(
     answer: &mut RawAnswer,
 ) -> Result<MappedTable<'static>, u32>
     ensures front { IfOk result (IsTableOf name.now dtz bytes.now) }
-    ensures stops { IfErr result (λ status. StopsFront name.now dtz bytes.now status answer.new.place answer.new.reason) }
+    ensures stops { IfErr result (λ status. Stops unread_file name.now dtz bytes.now status answer.new.place answer.new.reason) }
     ensures stays { IfErr result (λ status. (status ≡ 2 → ⊥) → answer.new ≡ answer.old) }
     ensures kept { IfOk result (λ t. answer.new ≡ answer.old) }
 {
@@ -87,14 +87,7 @@ fn opened(
     };
     match MappedTable::open(alloc, material, kind_of(dtz), bytes) {
         Ok(table) => Ok(table),
-        Err(ReadFault::Refused { place, reason }) => {
-            answer.place = place;
-            answer.reason = number_of(reason);
-            Err(REFUSED)
-        }
-        Err(ReadFault::Memory) => Err(MEMORY),
-        // bytes in memory never fail
-        Err(ReadFault::Device) => unreachable!(),
+        Err(fault) => Err(fault_status(fault, answer)),
     }
 }
 
@@ -127,7 +120,7 @@ pub extern "C" fn szg_tablebase_add(
     answer: &mut RawAnswer,
 ) -> u32
     ensures added { (result ≡ 0) → IsAdded name.now dtz bytes.now (files_of tablebase.old.value) tablebase.new.value }
-    ensures stops { (result ≡ 0 → ⊥) → StopsFront name.now dtz bytes.now result answer.new.place answer.new.reason }
+    ensures stops { (result ≡ 0 → ⊥) → Stops unread_file name.now dtz bytes.now result answer.new.place answer.new.reason }
     ensures kept { (result ≡ 0 → ⊥) → files_of tablebase.new.value ≡ files_of tablebase.old.value }
     ensures stays { (result ≡ 2 → ⊥) → answer.new ≡ answer.old }
 {

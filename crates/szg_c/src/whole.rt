@@ -6,10 +6,10 @@ ghost use Rattle.szg_c.specs.Reported.{Reports};
 ghost use Rattle.szg_c.specs.Lists.{AreValuesAt, HasIndexFrom};
 
 use crate::held::values_in;
-use crate::opening::{RawAnswer, kind_of, material_of, open};
-use crate::status::{DONE, MEMORY, NAME, RANGE, REFUSED, number_of};
+use crate::opening::{RawAnswer, fault_status, kind_of, material_of, open};
+use crate::status::{DONE, NAME, RANGE};
 use std::alloc::Global;
-use szg_file::{NoSink, ReadFault, Table, scan};
+use szg_file::{NoSink, Table, scan};
 use szg_io::Bytes;
 
 /// Checks whether the bytes begin with a table's file, and finds the length of that file. It keeps one block in memory at a
@@ -40,14 +40,7 @@ pub extern "C" fn szg_check(
             answer.place = scanned.length;
             DONE
         }
-        Err(ReadFault::Refused { place, reason }) => {
-            answer.place = place;
-            answer.reason = number_of(reason);
-            REFUSED
-        }
-        Err(ReadFault::Memory) => MEMORY,
-        // bytes in memory never fail
-        Err(ReadFault::Device) => unreachable!(),
+        Err(fault) => fault_status(fault, answer),
     }
 }
 

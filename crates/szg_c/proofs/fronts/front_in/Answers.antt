@@ -1,13 +1,13 @@
-use Rattle.std.proofs.Common.{◌≡◌, ◌∙◌, List, ℕ, Err, ap, length, subst}
-use Rattle.szg_values.specs.declared.Kind.{Kind}
-use Rattle.szg_file.specs.declared.fault.ReadFault.{ReadFault}
+use Rattle.std.proofs.Common.{◌≡◌, ◌∙◌, List, ℕ, Err, true, false, ap, length, subst}
+use Rattle.std.specs.Prelude.{Result}
 use Rattle.szg_file.specs.Format.{verdict}
-use Rattle.szg_file.specs.FrontInput.{IsFrontVerdict}
-use Rattle.szg_file.specs.FrontTable.{IsFrontOf}
+use Rattle.szg_file.specs.FrontInput.{IsFrontFault, IsFrontVerdict}
+use Rattle.szg_file.specs.FrontTable.{FrontKept, IsFrontOf}
 use Rattle.szg_file.specs.Unread.{unread_file}
-use Rattle.szg_file.specs.WholeRead.{Refuses}
-use Rattle.szg_c.specs.Reported.{kind_of_flag}
+use Rattle.szg_file.specs.declared.fault.ReadFault.{ReadFault}
+use Rattle.szg_file.proofs.Openings.InPlaceLaws.{front_fault}
 use Rattle.szg_c.proofs.FrontsStated.{is_front}
+use Rattle.szg_c.proofs.Stopped.{stops}
 use Rattle.szg_c.proofs.fronts.front_in.Goals as goal
 
 pub returns-in-Ok-clause-front : goal.returns-in-Ok-clause-front
@@ -18,13 +18,13 @@ returns-in-Ok-clause-front c =
     is_front c.args.name.now c.args.dtz c.args.bytes.now c.in-Some.material t c.in-Some.ensures e.read.stated.0 (e.read.stated.1 ∙ c.kind_of.ensures)
     (subst (λ (bs : List ℕ). IsFrontOf t bs) c.new.ensures.left (e.verdict long))
 
-pub returns-in-Err-Refused-clause-stops : goal.returns-in-Err-Refused-clause-stops
-returns-in-Err-Refused-clause-stops c =
-    let why = c.in-Err-Refused in
+pub fault_status-requires : goal.fault_status-requires
+fault_status-requires c = λ e. let never : false ≡ true = c.in-Err.ensures.may_fail (ap (λ (f : ReadFault). let r : Result (FrontKept × ℕ) ReadFault = Err f in r) e) in absurd (cc never)
+
+pub returns-in-Err-clause-stops : goal.returns-in-Err-clause-stops
+returns-in-Err-clause-stops c =
     let long : length c.new.result.left.now ≡ length c.args.bytes.now = ap (λ (z : List ℕ). length z) c.new.ensures.left in
-    let left : Refuses (verdict (unread_file c.in-Some.material c.kind_of.result) 0 c.new.result.left.now) why.place why.reason =
-    subst (λ (fault : ReadFault). IsFrontVerdict c.in-Some.material c.kind_of.result c.new.result.left.now (Err fault)) why.field-0-is (why.ensures.verdict long) in
-    let refused : Refuses (verdict (unread_file c.in-Some.material (kind_of_flag c.args.dtz)) 0 c.args.bytes.now) why.place why.reason =
-    subst (λ (k : Kind). Refuses (verdict (unread_file c.in-Some.material k) 0 c.args.bytes.now) why.place why.reason) c.kind_of.ensures
-    (subst (λ (bs : List ℕ). Refuses (verdict (unread_file c.in-Some.material c.kind_of.result) 0 bs) why.place why.reason) c.new.ensures.left left) in
-    (why.reason, (c.in-Some.material, c.in-Some.ensures, refused), c.number_of-answer.ensures)
+    let fault : IsFrontFault (verdict (unread_file c.in-Some.material c.kind_of.result) 0 c.args.bytes.now) c.in-Err.fault =
+    front_fault c.in-Some.material c.kind_of.result c.args.bytes.now c.in-Err.fault (subst (λ (bs : List ℕ). IsFrontVerdict c.in-Some.material c.kind_of.result bs (Err c.in-Err.fault)) c.new.ensures.left (c.in-Err.ensures.verdict long))
+    (λ e. let never : false ≡ true = c.in-Err.ensures.may_fail (ap (λ (f : ReadFault). let r : Result (FrontKept × ℕ) ReadFault = Err f in r) e) in absurd (cc never)) in
+    stops unread_file c.args.name.now c.args.dtz c.args.bytes.now c.in-Some.material c.kind_of.result c.in-Some.ensures c.kind_of.ensures c.in-Err.fault _ _ _ fault c.fault_status.ensures
