@@ -34,24 +34,39 @@ fn verified(rt: &impl Abort, tables: &[Table], name: &str) -> Result<Walked, Ver
     verify_tables(tables, &materials, &mut cells, &mut Blind)
 }
 
-/// Keeps the number of positions that it sees at the end of each of two materials.
+/// Keeps the numbers and the positions that it sees, ten times at most, and counts what it sees.
 #[derive(Drop)]
-struct Ends {
-    positions: [u64; 2],
-    seen: usize,
+struct Seen {
+    progress: [(u64, u64); 10],
+    count: usize,
 }
 
-impl Watcher for Ends {
-    fn see_progress(&mut self, _material: &Material, done: u64, to: u64, positions: u64) {
-        if done == to && self.seen < 2 {
-            self.positions[self.seen] = positions;
-            self.seen += 1;
+impl Watcher for Seen {
+    fn see_progress(&mut self, _material: &Material, done: u64, _to: u64, positions: u64) {
+        if self.count < 10 {
+            self.progress[self.count] = (done, positions);
         }
+        self.count = self.count.saturating_add(1);
     }
 }
 
+/// The numbers that were checked, and the positions among them, of a king and a knight and of a king and a bishop against a
+/// king.
+const PROGRESS: [(u64, u64); 10] = [
+    (0, 0),
+    (65_536, 24_168),
+    (131_072, 47_830),
+    (196_608, 76_640),
+    (262_144, 107_360),
+    (0, 0),
+    (65_536, 23_435),
+    (131_072, 46_432),
+    (196_608, 74_497),
+    (262_144, 104_307),
+];
+
 // Neither a knight nor a bishop can win. Another program counted the positions: White's king on a1 to d4, each side to
-// move, and the other side not in check.
+// move, and the other side not in check. The last of the three men is on two ranks more at each step.
 #[test]
 fn drawn_materials_pass(rt: HostRuntime) {
     let knight = made(&rt, Material::parse("KNvK"));
@@ -60,16 +75,16 @@ fn drawn_materials_pass(rt: HostRuntime) {
         table(&rt, knvk_wdl_constant(rt.alloc())),
         table(&rt, kbvk_wdl_constant(rt.alloc())),
     ];
-    let mut ends = Ends {
-        positions: [0, 0],
-        seen: 0,
+    let mut seen = Seen {
+        progress: [(0, 0); 10],
+        count: 0,
     };
     let mut cells = [Cell::default(); 1024];
-    let found = verify_tables(&tables, &[knight, bishop], &mut cells, &mut ends);
+    let found = verify_tables(&tables, &[knight, bishop], &mut cells, &mut seen);
     let walked = made(&rt, found);
     assert!(rt; walked.refused.is_none());
     assert_eq!(rt; walked.positions, 107_360 + 104_307);
-    assert!(rt; ends.positions == [107_360, 104_307]);
+    assert!(rt; seen.count == 10 && seen.progress == PROGRESS);
 }
 
 /// White doesn't win. All men are on one diagonal, so no other position that is checked is an image of this one.
