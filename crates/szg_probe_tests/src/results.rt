@@ -427,10 +427,10 @@ impl<'a> FileSystem for Unsteady<'a> {
 }
 
 /// The system's error that a probe meets. None if it meets none.
-fn error_met(
+fn error_met<'a>(
     rt: &(impl Abort + Alloc<A = Global>),
-    bytes: &[u8],
-    later: &[u8],
+    bytes: &'a [u8],
+    later: &'a [u8],
     kind: ErrorKind,
 ) -> Option<ErrorKind> {
     let mut system = Unsteady {
