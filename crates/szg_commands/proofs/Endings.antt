@@ -1,11 +1,19 @@
 -- Facts under an ending.
 use Rattle.std.specs.Borrow.{Bor}
-use Rattle.std.proofs.Common.{◌≡◌, ◌⊎◌, ◌==◌, ℕ, Bool, true, false, List, [], ◌∷◌, length, Option, None, Some, Result, Ok, Err, IfOk, IsErrOf, inl, inr, refl, arith}
+use Rattle.std.proofs.Common.{◌≡◌, ◌⊎◌, ◌==◌, ℕ, Bool, true, false, List, [], ◌∷◌, length, Option, None, Some, Result, Ok, Err, IfOk, IsErrOf, inl, inr, refl, sym, subst, arith}
 use Rattle.std.proofs.lemmas.Bool.{eqb-true}
 use Rattle.clap.specs.declared.parser.matches.ArgMatches.{ArgMatches}
 use Rattle.szg_files.specs.Draft.{published_target, published_text}
+use Rattle.szg_files.specs.FileSystem.{IsOpened}
 use Rattle.szg_files.specs.declared.draft.Published.{Published}
 use Rattle.szg_files.specs.declared.file_system.FileFault.{FileFault}
+use Rattle.std.specs.Io.KnownBytes.{Appends}
+use Rattle.szg_file.specs.Held.{file_bytes}
+use Rattle.szg_commands.specs.Answers.{IsAnswer}
+use Rattle.szg_commands.specs.Requests.{IsCarriedOut}
+use Rattle.szg_commands.specs.declared.refusal.Refusal.{Refusal}
+use Rattle.szg_commands.specs.declared.request.Task.{Task}
+use Rattle.szg_commands.specs.declared.request.Task.TheVariants.{OnTable, Build}
 use Rattle.szg_io.specs.Device.{HasFailed}
 use Rattle.szg_io.specs.declared.device.Input as input
 use Rattle.szg_io.specs.declared.device.Output as output
@@ -14,7 +22,7 @@ use Rattle.szg_named.specs.declared.many.CheckOptions.{CheckOptions}
 use Rattle.szg_named.specs.declared.stop.CheckStop.{CheckStop}
 use Rattle.szg_named.specs.declared.stop.CheckStop.TheVariants as check_stops
 use Rattle.szg_named.specs.declared.many.CheckReport.{CheckReport}
-use Rattle.szg_commands.specs.OnFiles.{AreChecked, Asked, AsksToCheck, EndsCheck, EndsTask, EndsWell, HasDone, HasRefused, HasShort, HasStopped, IsAskedReport, IsComplete, IsManifest, IsTargetOf}
+use Rattle.szg_commands.specs.OnFiles.{AreChecked, Asked, AsksToCheck, EndsCheck, EndsTask, EndsWell, HasDone, HasDoneTask, HasRefused, HasShort, HasStopped, IsAskedReport, IsComplete, IsManifest, IsPublishedBy, IsShortOfMemory, IsTargetOf, MeetsTask}
 use Rattle.szg_commands.specs.declared.command_line.CommandForm.{CommandForm}
 use Rattle.szg_commands.specs.declared.on_files.Ending.{Ending}
 use Rattle.szg_commands.specs.declared.on_files.Ending.TheVariants.{Checked, Listed, Done, Refused, Failed, BadLine, Device, Memory, Words}
@@ -117,3 +125,52 @@ module _ {S F R W : Type 0} (finds : CommandForm → List (List ℕ) → ArgMatc
   check_ends_well Refused asked asks same h = absurd h
   check_ends_well Device asked asks same h = absurd h
   check_ends_well (Words outcome) asked asks same h = absurd h
+
+-- the text that was given to what was empty
+text_given : (old new : Option (List ℕ)) (start whole text : List ℕ) → old ≡ Some start → start ≡ [] → new ≡ Some whole → Appends old new text → whole ≡ text
+text_given old new start whole text was empty is grown = (rw (was, is, empty) at grown)
+
+-- the answer that a draft was given is in the file that is published of it
+module _ {R W : Type 0} (reading : input.Ghosts R) (drafting : output.Ghosts W) (reader reader' : R) (draft draft' : W) (start : List ℕ) (published : Published) (target : List ℕ) where
+  pub answer_in : (task : Task) → drafting.written draft ≡ Some start → start ≡ [] → drafting.written draft' ≡ Some (published_text published) → published_target published ≡ target → IsCarriedOut reading drafting task reader reader' draft draft' →
+      IsPublishedBy reading task target reader reader' published
+  answer_in (OnTable request) was empty is named h =
+      let same = text_given (drafting.written draft) (drafting.written draft') start (published_text published) h.text was empty is h.given.bytes_out in
+      (named, (h.table, h.queried, h.taken, subst (λ (text : List ℕ). IsAnswer request.action request.part request.side h.table text) (sym same) h.answers))
+  answer_in (Build packing) was empty is named h =
+      (named, (h.dump, h.text, h.table, h.built, h.accepted, text_given (drafting.written draft) (drafting.written draft') start (published_text published) (file_bytes h.table) was empty is h.given.bytes_out))
+
+-- the same of a task on a file or on the reader
+module _ {S F R W X : Type 0} (content : S → List ℕ → Option (List ℕ)) (failures : S → ℕ) (filing : input.Ghosts F) (reading : input.Ghosts R) (drafting : output.Ghosts W) (writing : output.Ghosts X)
+    (task : Task) (target : Bor (List ℕ)) (system system' : S) (reader reader' : R) (draft draft' : W) (writer : X) (start : List ℕ) (published : Published) where
+  pub done_in : (source : Option (Bor (List ℕ))) → drafting.written draft ≡ Some start → start ≡ [] → drafting.written draft' ≡ Some (published_text published) → published_target published ≡ target.now →
+      HasDoneTask content failures filing reading drafting task source None system system' reader reader' draft draft' None →
+      HasDoneTask content failures filing reading writing task source (Some target) system system' reader reader' writer writer (Some published)
+  done_in (Some source) was empty is named h =
+      (h.0, (h.1.0, h.1.1, h.1.2, (refl, answer_in filing drafting h.1.0 h.1.1 draft draft' start published target.now task was empty is named h.1.3)))
+  done_in None was empty is named h = (h.0, (refl, answer_in reading drafting reader reader' draft draft' start published target.now task was empty is named h.1))
+
+-- memory was refused where the line of a task's refusal was due
+module _ {S F R W : Type 0} (content : S → List ℕ → Option (List ℕ)) (failures : S → ℕ) (filing : input.Ghosts F) (reading : input.Ghosts R) (writing : output.Ghosts W)
+    (task : Task) (system system' : S) (reader reader' : R) (writer writer' : W) where
+  pub short_refused : (source : Option (Bor (List ℕ))) (refusal : Refusal) → MeetsTask content failures filing reading task source system system' reader reader' refusal → writer' ≡ writer →
+      IsShortOfMemory content failures filing reading writing task source system system' reader reader' writer writer'
+  short_refused (Some source) refusal met same = (met.0, inl same)
+  short_refused None refusal met same = (met.0, inl same)
+
+-- a task on the file that was opened as its reader
+module _ {S F R W : Type 0} (content : S → List ℕ → Option (List ℕ)) (failures : S → ℕ) (filing : input.Ghosts F) (reading : input.Ghosts R) (writing : output.Ghosts W)
+    (task : Task) (source : Bor (List ℕ)) (system before after : S) (reader : R) (file file' : F) where
+  pub done_from : (target : Option (Bor (List ℕ))) (writer writer' : W) (published : Option Published) → IsOpened content failures filing system before source.now file →
+      HasDoneTask content failures filing filing writing task None target before after file file' writer writer' published →
+      HasDoneTask content failures filing reading writing task (Some source) target system after reader reader writer writer' published
+  done_from target writer writer' published opened h = (refl, (file, file', subst (λ (s : S). IsOpened content failures filing system s source.now file) (sym h.0) opened, h.1))
+
+  pub meets_from : (refusal : Refusal) → IsOpened content failures filing system before source.now file → MeetsTask content failures filing filing task None before after file file' refusal →
+      MeetsTask content failures filing reading task (Some source) system after reader reader refusal
+  meets_from refusal opened h = (refl, (file, file', subst (λ (s : S). IsOpened content failures filing system s source.now file) (sym h.0) opened, h.1))
+
+  pub short_from : (writer writer' : W) → IsOpened content failures filing system before source.now file → IsShortOfMemory content failures filing filing writing task None before after file file' writer writer' →
+      IsShortOfMemory content failures filing reading writing task (Some source) system after reader reader writer writer'
+  short_from writer writer' opened h =
+      (refl, listed_or (λ same. same) (λ begun. (file, file', subst (λ (s : S). IsOpened content failures filing system s source.now file) (sym h.0) opened, begun)) h.1)

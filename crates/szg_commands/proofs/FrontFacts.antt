@@ -31,7 +31,7 @@ use Rattle.szg_commands.specs.declared.fronts.OpenedFront.{OpenedFront}
 use Rattle.szg_commands.specs.declared.refusal.Refusal.{Refusal}
 use Rattle.szg_commands.specs.declared.refusal.Refusal.TheVariants as why
 use Rattle.szg_commands.specs.declared.request.Action.TheVariants.{Probe, Show}
-use Rattle.szg_commands.specs.declared.request.Class.{Class}
+use Rattle.szg_commands.specs.declared.request.AskedClass.{AskedClass}
 use Rattle.szg_commands.specs.declared.request.Request.{Request}
 
 -- ---- the table of a file
@@ -205,7 +205,7 @@ pub place_refused : (o : Option PlaceFault) (fault : PlaceFault) (s : Spot) → 
 place_refused None fault s h none = absurd (cc (none refl))
 place_refused (Some f) fault s h none = let same : fault ≡ f = cc in ap (λ (z : PlaceFault). Some (why.Place z)) (sym same)
 
-module _ (x : Index) (board : Board) (class : Class) (t : Contents) (same : x ≡ index_of t) where
+module _ (x : Index) (board : Board) (class : AskedClass) (t : Contents) (same : x ≡ index_of t) where
   pub spot_of_fetched : (text : List ℕ) → IsNone (place_fault (numbering_in x) board) × (text ≡ spot_line (spot_of (numbering_in x) board)) → IsSpotLine t board text
   spot_of_fetched text h = subst (λ (y : Index). IsNone (place_fault (numbering_in y) board) × (text ≡ spot_line (spot_of (numbering_in y) board))) same h
 

@@ -8,3 +8,4 @@ pub mod FrontFacts
 pub mod Endings
 pub mod Words
 mod Sharing
+mod Requests

@@ -1,10 +1,9 @@
 -- A table that was read while a sink accepted its values.
-use Rattle.std.proofs.Common.{◌≡◌, ℕ, List, flat_map, sym, ap, subst, ◌∙◌, Option, Some, None, Result, Ok, Err}
-use Rattle.std.specs.Prelude.{IfSome, IsSomeAnd, OnOk, option_map}
+use Rattle.std.proofs.Common.{◌≡◌, ℕ, List, flat_map, sym, ap, subst, ◌∙◌, Option, Some, None}
+use Rattle.std.specs.Prelude.{IfSome, IsSomeAnd, option_map}
 use Rattle.szg_io.specs.declared.device.Input as input
 use Rattle.szg_io.specs.declared.device.Output as output
 use Rattle.szg_commands.specs.OnFiles.{IsCarriedFrom}
-use Rattle.szg_commands.specs.declared.on_files.FileStop.{FileStop}
 use Rattle.szg_commands.specs.declared.request.Task.{Task}
 use Rattle.szg_values.specs.Material.{IsMaterial, Sides, name_of}
 use Rattle.szg_file.specs.Accepted.{IsAccepted}
@@ -46,10 +45,10 @@ pub lines_of_part : (t : Contents) (part side size : ℕ) (text : List ℕ) → 
 lines_of_part t part side size text there stated = lines_of_found t (wanted_of (only part side) t) text size (subtable_at t part side) there (only_one t part side) stated
 
 -- a file that is opened once more, after the system opened it before
-pub carried_on : {S F W : Type 0} (content : S → List ℕ → Option (List ℕ)) (failures : S → ℕ) (reading : input.Ghosts F) (writing : output.Ghosts W) (task : Task) (source : List ℕ) (system between system' : S) (writer writer' : W) (r : Result (Unit {0}) FileStop) →
+pub carried_on : {S F W : Type 0} (content : S → List ℕ → Option (List ℕ)) (failures : S → ℕ) (reading : input.Ghosts F) (writing : output.Ghosts W) (task : Task) (source : List ℕ) (system between system' : S) (writer writer' : W) →
     content between ≡ content system → failures between ≡ failures system →
-    OnOk r (IsCarriedFrom content failures reading writing task source None between system' writer writer' None) → OnOk r (IsCarriedFrom content failures reading writing task source None system system' writer writer' None)
-carried_on content failures reading writing task source system between system' writer writer' (Ok x) kept quiet h = (
+    IsCarriedFrom content failures reading writing task source None between system' writer writer' None → IsCarriedFrom content failures reading writing task source None system system' writer writer' None
+carried_on content failures reading writing task source system between system' writer writer' kept quiet h = (
   h.0,
   h.1,
   record {
@@ -60,4 +59,3 @@ carried_on content failures reading writing task source system between system' w
   },
   h.3,
 )
-carried_on content failures reading writing task source system between system' writer writer' (Err stop) kept quiet h = tt

@@ -20,10 +20,10 @@ use Rattle.szg_place.specs.Spots.{board_at, place_fault, placement_refusal, spot
 use Rattle.szg_place.specs.Tables.{numbering_of, value_at, class_of, mapped_number}
 use Rattle.szg_place.specs.declared.Spot.{Spot}
 use Rattle.szg_commands.specs.Men.{men_words}
-use Rattle.szg_commands.specs.declared.request.Class.{Class}
-use Rattle.szg_commands.specs.declared.request.Class.TheVariants.{Win, Cursed, Draw, Blessed, Loss}
-use Rattle.szg_commands.specs.declared.request.Form.{Form}
-use Rattle.szg_commands.specs.declared.request.Form.TheVariants as forms
+use Rattle.szg_commands.specs.declared.request.AskedClass.{AskedClass}
+use Rattle.szg_commands.specs.declared.request.AskedClass.TheVariants.{Win, Cursed, Draw, Blessed, Loss}
+use Rattle.szg_commands.specs.declared.request.DumpForm.{DumpForm}
+use Rattle.szg_commands.specs.declared.request.DumpForm.TheVariants as forms
 use Rattle.szg_commands.specs.declared.request.Action.{Action}
 use Rattle.szg_commands.specs.declared.request.Action.TheVariants.{Check, Show, Get, GetCounted, Values, Copy, Dump, Index, Probe, Placement, Unplaced}
 
@@ -48,12 +48,12 @@ front_lines material kind count = codes "name " ++ (name_of material ++ (codes "
 
 -- ---- dumps
 
-abbrev pub number_of_form : Form → ℕ
+abbrev pub number_of_form : DumpForm → ℕ
 number_of_form forms.Values = 1
 number_of_form forms.Runs = 2
 
 -- the text of the table's dump
-abbrev pub IsDumpText : Form → Contents → List ℕ → Type 0
+abbrev pub IsDumpText : DumpForm → Contents → List ℕ → Type 0
 IsDumpText form t text = (dump : stated.Dump) × IsDumpOf dump t × (text ≡ dump_text (form_of (number_of_form form)) dump)
 
 -- ---- placements
@@ -69,7 +69,7 @@ spot_line spot = codes "part " ++ (part_letter spot.part ++ (codes " side " ++ (
 abbrev pub IsSpotLine : Contents → Board → List ℕ → Type 0
 IsSpotLine t board text = IsNone (place_fault (numbering_of t) board) × (text ≡ spot_line (spot_of (numbering_of t) board))
 
-abbrev pub number_of_class : Class → ℤ
+abbrev pub number_of_class : AskedClass → ℤ
 number_of_class Win = pos 2
 number_of_class Cursed = pos 1
 number_of_class Draw = pos 0
@@ -86,12 +86,12 @@ IsClassLine t board text = IsNone (place_fault (numbering_of t) board)
     × IsSomeAnd (value_at t (spot_of (numbering_of t) board)) (λ v. text ≡ class_line (class_of v))
 
 -- the number of a placement in a class in a DTZ table
-abbrev pub IsNumberLine : Contents → Board → Class → List ℕ → Type 0
+abbrev pub IsNumberLine : Contents → Board → AskedClass → List ℕ → Type 0
 IsNumberLine t board class text = IsNone (place_fault (numbering_of t) board)
     × IsSomeAnd (value_at t (spot_of (numbering_of t) board)) (λ v. (number : ℕ)
     × (mapped_number t (spot_of (numbering_of t) board).part (number_of_class class) v ≡ Ok number) × (text ≡ number_line number))
 
-abbrev pub IsOutcomeLine : Kind → Contents → Board → Class → List ℕ → Type 0
+abbrev pub IsOutcomeLine : Kind → Contents → Board → AskedClass → List ℕ → Type 0
 IsOutcomeLine Wdl t board class text = IsClassLine t board text
 IsOutcomeLine Dtz t board class text = IsNumberLine t board class text
 

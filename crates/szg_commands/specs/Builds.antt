@@ -6,7 +6,7 @@ use Rattle.szg_io.specs.declared.device.Output as output
 use Rattle.szg_file.specs.Accepted.{IsAccepted}
 use Rattle.szg_file.specs.Contents.{Contents}
 use Rattle.szg_file.specs.Held.{Shown, file_bytes}
-use Rattle.szg_build.specs.Built.{IsBuilt, IsBuiltSmall, dump_plan}
+use Rattle.szg_build.specs.Chosen.{IsBuiltAs, plan_by}
 use Rattle.szg_build.specs.Dump.{Dump}
 use Rattle.szg_build.specs.Grammar.{dump_format}
 use Rattle.szg_build.specs.Lines.{Verdict, good, verdict}
@@ -14,30 +14,12 @@ use Rattle.szg_build.specs.Plan.{Plan, build_fault}
 use Rattle.szg_build.specs.Reading.{IsLineFault, IsPlanFault, EndsWith}
 use Rattle.szg_build.specs.declared.BuildFault.{BuildFault}
 use Rattle.szg_build.specs.declared.building.Choice.{Choice}
-use Rattle.szg_build.specs.declared.building.Choice.TheVariants as by_choice
 use Rattle.szg_commands.specs.declared.refusal.Refusal.{Refusal}
 use Rattle.szg_commands.specs.declared.refusal.Refusal.TheVariants as why
-use Rattle.szg_commands.specs.declared.request.Packing.{Packing}
-use Rattle.szg_commands.specs.declared.request.Packing.TheVariants.{Fixed, Small}
-
--- the plan of a dump's table; the numbers of a small plan bind nothing
-abbrev pub plan_in : Packing → Dump → Plan
-plan_in (Fixed sizes) dump = dump_plan dump sizes.block_bits sizes.span_bits sizes.rounds
-plan_in Small dump = dump_plan dump 5 1 0
-
--- how the builder packs it
-abbrev pub choice_in : Packing → Choice
-choice_in (Fixed sizes) = by_choice.Fixed (record { block_bits = sizes.block_bits; span_bits = sizes.span_bits; rounds = sizes.rounds })
-choice_in Small = by_choice.Small
-
--- a dump and its plan have no fault
-abbrev pub IsFaultless : Packing → Dump → Type 0
-IsFaultless packing dump = build_fault (plan_in packing dump) dump.lists ≡ None
 
 -- the table that is built of a dump, if neither the dump nor its plan has a fault
-abbrev pub IsBuiltIn : Packing → Dump → Contents → Type 0
-IsBuiltIn (Fixed sizes) dump t = IsFaultless (Fixed sizes) dump × IsBuilt (plan_in (Fixed sizes) dump) dump.lists t
-IsBuiltIn Small dump t = IsFaultless Small dump × IsBuiltSmall (plan_in Small dump) dump.lists t
+abbrev pub IsBuiltIn : Choice → Dump → Contents → Type 0
+IsBuiltIn packing dump t = (build_fault (plan_by packing dump) dump.lists ≡ None) × IsBuiltAs packing (plan_by packing dump) dump.lists t
 
 -- Exactly the text of this dump was taken from the reader.
 pub record IsTextOf {R : Type 0} (reading : input.Ghosts R) (reader reader' : R) (dump : Dump) : Type 0 where
@@ -48,7 +30,7 @@ pub record IsTextOf {R : Type 0} (reading : input.Ghosts R) (reader reader' : R)
 
 -- Just the text of a dump was taken from the reader, and just the file of an accepted table that is built of it in this
 -- packing was given to the writer.
-pub record IsMade {R W : Type 0} (reading : input.Ghosts R) (writing : output.Ghosts W) (packing : Packing)
+pub record IsMade {R W : Type 0} (reading : input.Ghosts R) (writing : output.Ghosts W) (packing : Choice)
     (reader reader' : R) (writer writer' : W) : Type 0 where
   pub dump : Dump
   pub text : IsTextOf reading reader reader' dump
@@ -74,11 +56,11 @@ abbrev pub IsRefusedPlan : Plan → List (List ℕ) → Refusal → Type 0
 IsRefusedPlan plan lists refusal = (fault : BuildFault) × (refusal ≡ why.Build fault) × (build_fault plan lists ≡ Some fault)
 
 -- A dump was read, and no table can be built of it.
-pub record IsRefusedDump {R : Type 0} (reading : input.Ghosts R) (packing : Packing) (reader reader' : R) (refusal : Refusal) : Type 0 where
+pub record IsRefusedDump {R : Type 0} (reading : input.Ghosts R) (packing : Choice) (reader reader' : R) (refusal : Refusal) : Type 0 where
   pub dump : Dump
   pub text : IsTextOf reading reader reader' dump
-  pub refused : IsRefusedPlan (plan_in packing dump) dump.lists refusal
+  pub refused : IsRefusedPlan (plan_by packing dump) dump.lists refusal
 
 -- No table was built: the text is refused, or its dump.
-abbrev pub IsUnmade : {R : Type 0} → input.Ghosts R → Packing → R → R → Refusal → Type 0
+abbrev pub IsUnmade : {R : Type 0} → input.Ghosts R → Choice → R → R → Refusal → Type 0
 IsUnmade reading packing reader reader' refusal = IsRefusedText reading reader reader' refusal ⊎ IsRefusedDump reading packing reader reader' refusal

@@ -16,8 +16,8 @@ use Rattle.szg_commands.specs.Words.{is_word, number_from, parsed_side, word_of}
 use Rattle.szg_commands.specs.declared.command_line.CommandForm.{CommandForm}
 use Rattle.szg_commands.specs.declared.command_line.CommandForm.TheVariants.{Streams, Files}
 use Rattle.szg_commands.specs.declared.file_words.FileJob.{FileJob}
-use Rattle.szg_commands.specs.declared.file_words.WordsFault.{WordsFault}
-use Rattle.szg_commands.specs.declared.file_words.WordsFault.TheVariants.{Kind, Memory, Number, Shard}
+use Rattle.szg_commands.specs.declared.request.WordsFault.{WordsFault}
+use Rattle.szg_commands.specs.declared.request.WordsFault.TheVariants.{Kind, Memory, Number, Shard, Unused}
 use Rattle.szg_commands.specs.declared.request.Task.{Task}
 
 -- ---- what is assumed of clap
@@ -109,6 +109,7 @@ has_kind found = is_some (named_as (first_value found (codes "name")) (kind_give
 -- Why the values that were found make no job.
 abbrev pub IsWordsFault : List ℕ → Found → WordsFault → Type 0
 IsWordsFault command found (Number fault) = has_numbers command found ≡ false
+IsWordsFault command found (Unused argument) = has_unused found ≡ true
 IsWordsFault command found Kind = has_kind found ≡ false
 IsWordsFault command found (Shard word) = is_some (first_value found (codes "shard")) ≡ true
 IsWordsFault command found Memory = Unit {0}

@@ -33,7 +33,7 @@ use Rattle.szg_commands.specs.declared.refusal.Refusal.{Refusal}
 use Rattle.szg_commands.specs.declared.refusal.Refusal.TheVariants as why
 use Rattle.szg_commands.specs.declared.request.Action.{Action}
 use Rattle.szg_commands.specs.declared.request.Action.TheVariants.{Get, Index, Probe, Show}
-use Rattle.szg_commands.specs.declared.request.Class.{Class}
+use Rattle.szg_commands.specs.declared.request.AskedClass.{AskedClass}
 use Rattle.szg_commands.specs.declared.request.Request.{Request}
 
 -- ---- answers
@@ -43,7 +43,7 @@ abbrev pub IsDecodedAt : Contents → ℕ → ℕ → ℕ → ℕ → Type 0
 IsDecodedAt t part side index value = IsSomeAnd (subtable_at t part side) (λ found. (index < found.0.size) × IsDecoded t.kind found index value)
 
 -- the line of a value: of a WDL table its class, of a DTZ table its number of a part in a class
-abbrev pub IsMeaningLine : Kind → TableIndex → ℕ → Class → ℕ → List ℕ → Type 0
+abbrev pub IsMeaningLine : Kind → TableIndex → ℕ → AskedClass → ℕ → List ℕ → Type 0
 IsMeaningLine Wdl x part class value text = text ≡ class_line (class_of value)
 IsMeaningLine Dtz x part class value text =
     (number : ℕ) × (as_number x part (number_of_class class) value ≡ Ok number) × (text ≡ number_line number)
@@ -75,7 +75,7 @@ IsBadBlockAt content t part side index (why.Block number offset) =
 IsBadBlockAt content t part side index refusal = ⊥
 
 -- the value has no number of its part in the class
-abbrev pub IsMapRefusal : Kind → TableIndex → ℕ → Class → ℕ → Refusal → Type 0
+abbrev pub IsMapRefusal : Kind → TableIndex → ℕ → AskedClass → ℕ → Refusal → Type 0
 IsMapRefusal Wdl x part class value refusal = ⊥
 IsMapRefusal Dtz x part class value refusal = map_refusal (as_number x part (number_of_class class) value) ≡ Some refusal
 

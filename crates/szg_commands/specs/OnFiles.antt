@@ -67,11 +67,6 @@ IsCarriedFrom {F = F} content failures reading writing task source target system
     (file : F) × (file' : F) × IsOpened content failures reading system system' source file
     × IsCarriedTo reading writing task target file file' writer writer' published
 
--- The file that was asked for has just the task's answer on the file that the system opened at a path.
-abbrev pub IsPublishedFrom : {S F : Type 0} → (S → List ℕ → Option (List ℕ)) → (S → ℕ) → input.Ghosts F → Task → List ℕ → List ℕ → S → S → Published → Type 0
-IsPublishedFrom {F = F} content failures reading task source target system system' published =
-    (file : F) × (file' : F) × IsOpened content failures reading system system' source file × IsPublishedBy reading task target file file' published
-
 -- The task meets a refusal on the file that the system opened at a path.
 abbrev pub MeetsFrom : {S F : Type 0} → (S → List ℕ → Option (List ℕ)) → (S → ℕ) → input.Ghosts F → Task → List ℕ → S → S → Refusal → Type 0
 MeetsFrom {F = F} content failures reading task source system system' refusal =
@@ -90,9 +85,18 @@ IsStartedFrom {F = F} content failures reading writing task source system system
 abbrev pub IsUnwritten : {W : Type 0} → output.Ghosts W → W → W → Type 0
 IsUnwritten writing writer writer' = (writer' ≡ writer) ⊎ HasFailed (writing.failures writer) (writing.failures writer') (writing.interrupted writer')
 
--- The task lists the values of a file for the writer: they are written while the file is read.
+-- The task lists a table's values.
+abbrev pub ListsValues : Task → Type 0
+ListsValues (OnTable request) = IsListed request.action
+ListsValues (Build packing) = ⊥
+
+-- It lists those of a file: they are written while it is read.
+abbrev pub ListsFile : {S : Type 0} → Task → Option S → Type 0
+ListsFile task source = ListsValues task × IsSome source
+
+-- It lists them for the writer.
 abbrev pub IsListing : {S T : Type 0} → Task → Option S → Option T → Type 0
-IsListing task source target = (request : Request) × (task ≡ OnTable request) × IsListed request.action × IsSome source × (target ≡ None)
+IsListing task source target = ListsFile task source × (target ≡ None)
 
 -- ---- how a command line ends
 
@@ -160,12 +164,16 @@ HasDoneTask content failures filing reading writing task (Some source) target sy
 HasDoneTask content failures filing reading writing task None target system system' reader reader' writer writer' published =
     (system' ≡ system) × IsCarriedTo reading writing task (option_map (λ path. path.now) target) reader reader' writer writer' published
 
--- A task met a refusal so, and just its line was given to the writer.
+-- A task met a refusal so.
+abbrev pub MeetsTask : {S F R : Type 0} → (S → List ℕ → Option (List ℕ)) → (S → ℕ) → input.Ghosts F → input.Ghosts R → Task → Option (Bor (List ℕ)) → S → S → R → R → Refusal → Type 0
+MeetsTask content failures filing reading task (Some source) system system' reader reader' refusal =
+    (reader' ≡ reader) × MeetsFrom content failures filing task source.now system system' refusal
+MeetsTask content failures filing reading task None system system' reader reader' refusal = (system' ≡ system) × Meets reading task reader reader' refusal
+
+-- Just the line of the refusal that it met was given to the writer.
 abbrev pub HasRefusedTask : {S F R W : Type 0} → (S → List ℕ → Option (List ℕ)) → (S → ℕ) → input.Ghosts F → input.Ghosts R → output.Ghosts W → Task → Option (Bor (List ℕ)) → S → S → R → R → W → W → Type 0
-HasRefusedTask content failures filing reading writing task (Some source) system system' reader reader' writer writer' =
-    (reader' ≡ reader) × (refusal : Refusal) × MeetsFrom content failures filing task source.now system system' refusal × Gives writing writer writer' (refusal_line refusal) 0
-HasRefusedTask content failures filing reading writing task None system system' reader reader' writer writer' =
-    (system' ≡ system) × (refusal : Refusal) × Meets reading task reader reader' refusal × Gives writing writer writer' (refusal_line refusal) 0
+HasRefusedTask content failures filing reading writing task source system system' reader reader' writer writer' =
+    (refusal : Refusal) × MeetsTask content failures filing reading task source system system' reader reader' refusal × Gives writing writer writer' (refusal_line refusal) 0
 
 -- Memory was refused to a task so.
 abbrev pub IsShortOfMemory : {S F R W : Type 0} → (S → List ℕ → Option (List ℕ)) → (S → ℕ) → input.Ghosts F → input.Ghosts R → output.Ghosts W → Task → Option (Bor (List ℕ)) → S → S → R → R → W → W → Type 0

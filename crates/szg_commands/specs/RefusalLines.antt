@@ -49,6 +49,17 @@ abbrev pub map_word : MapFault → List ℕ
 map_word maps.Draw = codes "Draw"
 map_word maps.OutsideMap = codes "OutsideMap"
 
+-- why something is refused, in a word
+abbrev pub refusal_word : Refusal → List ℕ
+refusal_word (why.Name fault) = name_word fault
+refusal_word (why.Placement fault) = placement_word fault
+refusal_word (why.At place reason) = reason_word reason
+refusal_word (why.Line line fault) = dump_word fault
+refusal_word (why.Build fault) = build_word fault
+refusal_word (why.Place fault) = place_word fault
+refusal_word (why.Map fault) = map_word fault
+refusal_word refusal = []
+
 -- a line of what is refused and of the word that says why
 abbrev pub worded_line : List ℕ → List ℕ → List ℕ
 worded_line what word = codes "refused " ++ (what ++ (codes ": " ++ (word ++ 10 ∷ [])))

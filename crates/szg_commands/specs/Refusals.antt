@@ -10,7 +10,7 @@ use Rattle.szg_place.specs.Spots.{place_fault, placement_refusal, spot_of}
 use Rattle.szg_place.specs.Tables.{numbering_of, value_at, mapped_number}
 use Rattle.szg_place.specs.declared.PlaceFault.{PlaceFault}
 use Rattle.szg_commands.specs.Answers.{number_of_class}
-use Rattle.szg_commands.specs.declared.request.Class.{Class}
+use Rattle.szg_commands.specs.declared.request.AskedClass.{AskedClass}
 use Rattle.szg_commands.specs.declared.refusal.Refusal.{Refusal}
 use Rattle.szg_commands.specs.declared.refusal.Refusal.TheVariants as why
 use Rattle.szg_commands.specs.declared.request.Action.{Action}
@@ -47,11 +47,11 @@ first_refusal (Some refusal) other = Some refusal
 abbrev pub spot_refusal : Contents → Board → Option Refusal
 spot_refusal t board = place_refusal (place_fault (numbering_of t) board)
 
-abbrev pub number_refusal : Contents → Board → Class → Option Refusal
+abbrev pub number_refusal : Contents → Board → AskedClass → Option Refusal
 number_refusal t board class = first_refusal (spot_refusal t board)
     (option_and_then (λ v. map_refusal (mapped_number t (spot_of (numbering_of t) board).part (number_of_class class) v)) (value_at t (spot_of (numbering_of t) board)))
 
-abbrev pub outcome_refusal : Kind → Contents → Board → Class → Option Refusal
+abbrev pub outcome_refusal : Kind → Contents → Board → AskedClass → Option Refusal
 outcome_refusal Wdl t board class = spot_refusal t board
 outcome_refusal Dtz t board class = number_refusal t board class
 

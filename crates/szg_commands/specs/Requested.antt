@@ -12,9 +12,9 @@ use Rattle.szg_commands.specs.Words.{parsed_class, parsed_form, is_word, parsed_
 use Rattle.szg_commands.specs.declared.refusal.Refusal.{Refusal}
 use Rattle.szg_commands.specs.declared.request.Action.{Action}
 use Rattle.szg_commands.specs.declared.request.Action.TheVariants as actions
-use Rattle.szg_commands.specs.declared.request.Class.{Class}
-use Rattle.szg_commands.specs.declared.request.Packing.{Packing}
-use Rattle.szg_commands.specs.declared.request.Packing.TheVariants.{Fixed, Small}
+use Rattle.szg_commands.specs.declared.request.AskedClass.{AskedClass}
+use Rattle.szg_build.specs.declared.building.Choice.{Choice}
+use Rattle.szg_build.specs.declared.building.Choice.TheVariants.{Fixed, Small}
 use Rattle.szg_commands.specs.declared.request.Request.{Request}
 use Rattle.szg_commands.specs.declared.request.Task.{Task}
 use Rattle.szg_commands.specs.declared.request.Task.TheVariants.{OnTable, Build}
@@ -57,7 +57,7 @@ names_men command = bytes_eq command (codes "index") || bytes_eq command (codes 
 abbrev pub words_of : Found → List ℕ → List (List ℕ)
 words_of found argument = unwrap_or (option_map raw_values (matched_of found argument)) []
 
-abbrev pub action_of_men : Bool → Result Board Refusal → Class → Action
+abbrev pub action_of_men : Bool → Result Board Refusal → AskedClass → Action
 action_of_men is_index (Err refusal) class = actions.Unplaced refusal
 action_of_men true (Ok board) class = actions.Index board
 action_of_men false (Ok board) class = actions.Probe board class
@@ -89,7 +89,7 @@ pub record IsRequestIn (command : List ℕ) (found : Found) (request : Request) 
 -- ---- packings
 
 -- The packing is that of the values that were found.
-abbrev pub IsPackingIn : Found → Packing → Type 0
+abbrev pub IsPackingIn : Found → Choice → Type 0
 IsPackingIn found (Fixed sizes) = (is_word (first_value found (codes "plan")) (codes "small") ≡ false)
     × (number_from 5 10 (word_of found (codes "block")) ≡ Some sizes.block_bits)
     × (number_from 1 16 (word_of found (codes "span")) ≡ Some sizes.span_bits)

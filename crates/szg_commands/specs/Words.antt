@@ -11,10 +11,10 @@ use Rattle.szg_values.specs.declared.Color.{Color}
 use Rattle.szg_values.specs.declared.Color.TheVariants.{White, Black}
 use Rattle.szg_values.specs.declared.Kind.{Kind}
 use Rattle.szg_values.specs.declared.Kind.TheVariants.{Wdl, Dtz}
-use Rattle.szg_commands.specs.declared.request.Class.{Class}
-use Rattle.szg_commands.specs.declared.request.Class.TheVariants.{Win, Cursed, Draw, Blessed, Loss}
-use Rattle.szg_commands.specs.declared.request.Form.{Form}
-use Rattle.szg_commands.specs.declared.request.Form.TheVariants.{Values, Runs}
+use Rattle.szg_commands.specs.declared.request.AskedClass.{AskedClass}
+use Rattle.szg_commands.specs.declared.request.AskedClass.TheVariants.{Win, Cursed, Draw, Blessed, Loss}
+use Rattle.szg_commands.specs.declared.request.DumpForm.{DumpForm}
+use Rattle.szg_commands.specs.declared.request.DumpForm.TheVariants.{Values, Runs}
 
 -- the word that was given for an argument
 abbrev pub word_of : Found → List ℕ → List ℕ
@@ -50,14 +50,14 @@ abbrev pub parsed_mover : Option (List ℕ) → Color
 parsed_mover word = if is_word word (codes "w") then White else Black
 
 -- the class of a word, a win where there is none
-abbrev pub parsed_class : Option (List ℕ) → Class
+abbrev pub parsed_class : Option (List ℕ) → AskedClass
 parsed_class word =
     if is_word word (codes "cursed") then Cursed else
     if is_word word (codes "draw") then Draw else
     if is_word word (codes "blessed") then Blessed else
     if is_word word (codes "loss") then Loss else Win
 
-abbrev pub parsed_form : ℕ → Form
+abbrev pub parsed_form : ℕ → DumpForm
 parsed_form number = if number == 1 then Values else Runs
 
 -- the part of a letter, part 0 where there is none

@@ -5,11 +5,10 @@ ghost use Rattle.szg_io.specs.Moved.{Takes};
 ghost use Rattle.szg_file.specs.Accepted.{IsAccepted};
 ghost use Rattle.szg_build.specs.Chosen.{plan_by, IsBuiltAs};
 ghost use Rattle.szg_build.specs.Plan.{build_fault};
-ghost use Rattle.szg_commands.specs.Builds.{IsMade, IsRefusedPlan, IsRefusedText, IsTextOf, IsUnmade, choice_in};
+ghost use Rattle.szg_commands.specs.Builds.{IsMade, IsRefusedPlan, IsRefusedText, IsTextOf, IsUnmade};
 ghost use Rattle.szg_commands.specs.declared.refusal.Refusal.{Refusal};
 
 use crate::refusal::{Refusal, Stop};
-use crate::request::Packing;
 use std::alloc::Global;
 use szg_build::{BuildFault, Choice, DumpReadFault, PackedDump, Watcher, read_packed};
 use szg_file::{Table, write};
@@ -19,7 +18,7 @@ use szg_io::{Input, Output};
 /// refused nothing was written.
 pub fn build_and_write<R: Input, W: Output, V: Watcher>(
     alloc: Global,
-    packing: Packing,
+    packing: Choice,
     reader: &mut R,
     writer: &mut W,
     watcher: &mut V,
@@ -39,34 +38,20 @@ pub fn build_and_write<R: Input, W: Output, V: Watcher>(
     }
 }
 
-/// Returns how the builder packs a table.
-fn choice_of(packing: Packing) -> Choice
-    ensures { result ≡ choice_in packing }
-{
-    match packing {
-        Packing::Fixed(sizes) => Choice::Fixed(szg_build::Packing {
-            block_bits: sizes.block_bits,
-            span_bits: sizes.span_bits,
-            rounds: sizes.rounds,
-        }),
-        Packing::Small => Choice::Small,
-    }
-}
-
 /// Reads a dump and packs its subtables.
 fn read_dump_to_build<R: Input, V: Watcher>(
     alloc: Global,
-    packing: Packing,
+    packing: Choice,
     reader: &mut R,
     watcher: &mut V,
 ) -> Result<PackedDump, Stop>
     ensures text { IfOk result (λ packed. IsTextOf R.Input reader.old reader.new packed.dump) }
-    ensures choice { IfOk result (λ packed. packed.choice ≡ choice_in packing) }
+    ensures choice { IfOk result (λ packed. packed.choice ≡ packing) }
     ensures calls { (bytes : List ℕ) × Takes R.Input reader.old reader.new bytes 1 }
     ensures device { IsErrOf result Stop.Device → HasFailed (R.failures reader.old) (R.failures reader.new) (R.interrupted reader.new) }
     ensures refused { (refusal : Refusal) → IsErrOf result (Stop.Refused refusal) → IsRefusedText R.Input reader.old reader.new refusal }
 {
-    match read_packed(alloc, choice_of(packing), reader, watcher) {
+    match read_packed(alloc, packing, reader, watcher) {
         Ok(dump) => Ok(dump),
         Err(DumpReadFault::Line { line, fault }) => {
             Err(Stop::Refused(Refusal::Line(line, fault)))
@@ -97,16 +82,8 @@ fn stop_of(fault: BuildFault) -> Stop
     ensures only { result ≡ Stop.Device → ⊥ }
     ensures memory { result ≡ Stop.Memory → fault ≡ BuildFault.Memory }
 {
-    let stated = match fault {
-        BuildFault::Memory => return Stop::Memory,
-        BuildFault::Order => BuildFault::Order,
-        BuildFault::Bits => BuildFault::Bits,
-        BuildFault::Rounds => BuildFault::Rounds,
-        BuildFault::Count => BuildFault::Count,
-        BuildFault::Length(list) => BuildFault::Length(list),
-        BuildFault::Value(list) => BuildFault::Value(list),
-        BuildFault::TooManyValues(list) => BuildFault::TooManyValues(list),
-        BuildFault::Map => BuildFault::Map,
-    };
-    Stop::Refused(Refusal::Build(stated))
+    match fault {
+        BuildFault::Memory => Stop::Memory,
+        fault => Stop::Refused(Refusal::Build(fault)),
+    }
 }

@@ -17,10 +17,10 @@ use crate::description::table_description;
 use crate::finding::{Clap, Finder};
 use crate::lookups::{counted_answer, get_answer, write_all_values};
 use crate::outcome::Outcome;
-use crate::placements::{outcome_answer, placement_answer, spot_answer};
+use crate::placements::{index_line, outcome_answer, placement_answer};
 use crate::refusal::{Refusal, Stop};
 use crate::refusal_lines::refusal_line;
-use crate::request::{Action, Form, Request, Task, parse};
+use crate::request::{Action, DumpForm, Request, Task, parse};
 use crate::saying::{say, say_line};
 use clap::Error;
 use clap::error::ErrorKind;
@@ -220,7 +220,7 @@ fn answer_request<W: Output>(
             Err(_) => Err(Stop::Device),
         },
         Action::Dump(form) => write_dump_text(alloc, table, *form, writer),
-        Action::Index(placement) => say_line(writer, spot_answer(alloc, table, placement)),
+        Action::Index(placement) => say_line(writer, index_line(alloc, table.index(), placement)),
         Action::Probe(placement, class) => say_line(
             writer,
             outcome_answer(alloc, table, placement, *class),
@@ -237,7 +237,7 @@ fn answer_request<W: Output>(
 fn write_dump_text<W: Output>(
     alloc: Global,
     table: &Table,
-    form: Form,
+    form: DumpForm,
     writer: &mut W,
 ) -> Result<(), Stop>
     ensures stated { OnOk result ((text : List ℕ) × IsDumpText form table.now.contents text × Gives W.Output writer.old writer.new text 0) }

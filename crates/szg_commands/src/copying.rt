@@ -7,15 +7,17 @@ ghost use Rattle.szg_commands.specs.Copies.{IsCopied};
 
 use crate::command_line::CommandForm;
 use crate::commands::words_outcome;
-use crate::on_files::{Ending, FileFailure, LineKind, given, unchecked, unread_list};
+use crate::fronts::read_failure;
+use crate::on_files::{Ending, FileFailure, LineKind, failed_ending, given, unread_list};
 use crate::request::usage_error;
-use crate::verification::{after_command, value_of};
+use crate::sorting::sorted_words;
 use std::alloc::{AllocError, Global};
 use std::fs::Metadata;
-use std::io::{Error, ErrorKind};
+use std::io::ErrorKind;
 use std::path::Path;
 use std::rt::Files;
-use szg_files::{Draft, FileFault, FileSystem, Lock, Published, Reasons, is_folder};
+use szg_build::StreamFault;
+use szg_files::{Draft, FileFault, FileSystem, Lock, Published, is_folder};
 use szg_io::{Input, Output, give_whole, take_whole};
 use szg_named::{
     CheckCounts, CheckOptions, CheckReport, CheckStop, Due, FileVerdict, check_path, due_of,
@@ -28,57 +30,34 @@ use szg_sums::{Hasher, Sha256, Sums, sha256_of};
 pub struct CopyWords<'a> {
     /// The lists of sums.
     lists: Vec<&'a str>,
-    /// The tables' files, and then the folder.
-    words: Vec<&'a str>,
+    /// The tables' files.
+    files: Vec<&'a str>,
+    folder: &'a str,
 }
 
-impl CopyWords<'_> {
-    /// Whether the words are tables' files, and then one that isn't named as one.
-    fn are_copies(&self) -> bool {
-        match self.words.split_last() {
-            Some((folder, files)) => {
-                !files.is_empty()
-                    && named_by(folder).is_none()
-                    && files.iter().all(|file| named_by(file).is_some())
-            }
-            None => false,
-        }
-    }
-}
-
-/// Returns what a command line asks to copy: its command is `copy`, and after it come tables' files and a folder, with
-/// `--sums` anywhere up to `--`. None for other words.
+/// Returns what a command line asks to copy: its command is `copy`, and after it come tables' files and a folder, which isn't
+/// named as one, with options. None for other words.
 pub(crate) fn copies_of<'a>(
     alloc: Global,
     words: &'a [&'a str],
 ) -> Result<Option<CopyWords<'a>>, AllocError> {
-    let Some(mut rest) = after_command(words, "copy") else {
+    let Some(found) = sorted_words(alloc, words, "copy", &["--sums"])? else {
         return Ok(None);
     };
-    let mut found = CopyWords {
-        lists: Vec::new(alloc),
-        words: Vec::new(alloc),
+    let lists = found.values_of(alloc, "--sums")?;
+    let mut files = found.words;
+    let Some(folder) = files.pop() else {
+        return Ok(None);
     };
-    let mut has_options = true;
-    'words: for _ in 0..words.len() {
-        let Some((word, after)) = rest.split_first() else {
-            break;
-        };
-        rest = after;
-        if has_options && *word == "--" {
-            has_options = false;
-        } else if has_options && word.starts_with('-') {
-            let Some((list, after)) = value_of("--sums", word, rest) else {
-                return Ok(None);
-            };
-            found.lists.push(list)?;
-            rest = after;
-        } else {
-            found.words.push(word)?;
-        }
-    }
-    Ok(if found.are_copies() {
-        Some(found)
+    let are_copies = !files.is_empty()
+        && named_by(folder).is_none()
+        && files.iter().all(|file| named_by(file).is_some());
+    Ok(if are_copies {
+        Some(CopyWords {
+            lists,
+            files,
+            folder,
+        })
     } else {
         None
     })
@@ -94,43 +73,26 @@ pub struct Copied<'a> {
     copy: Option<Published<'a>>,
 }
 
-/// Why bytes were not copied.
-#[derive(Clone, Copy)]
-enum CopyFault {
-    /// The input failed.
-    Input,
-    /// The output failed.
-    Output,
-}
-
-/// Copies what an input has left to an output, and returns its SHA-256 digest.
-fn copy_bytes<I: Input, W: Output>(input: &mut I, output: &mut W) -> Result<[u8; 32], CopyFault>
+/// Copies what an input has left to an output, and returns its SHA-256 digest. Errors: `Input` or `Output`, which failed.
+fn copy_bytes<I: Input, W: Output>(input: &mut I, output: &mut W) -> Result<[u8; 32], StreamFault>
     ensures { IfOk result (λ digest. (text : List ℕ) × Gives W.Output output.old output.new text 0 × (digest ≡ sha256 text)) }
 {
     let mut hasher: Sha256 = Hasher::empty();
     let mut chunk = [0; 16384];
     'chunks: for _ in 0..u64::MAX {
         let Ok(count) = take_whole(input, &mut chunk) else {
-            return Err(CopyFault::Input);
+            return Err(StreamFault::Input);
         };
         let bytes = &chunk[..count];
         hasher.feed(bytes);
         if give_whole(output, bytes).is_err() {
-            return Err(CopyFault::Output);
+            return Err(StreamFault::Output);
         }
         if count < chunk.len() {
             return Ok(sha256_of(hasher));
         }
     }
-    Err(CopyFault::Input)
-}
-
-/// A file's system's reason, or that of another failure.
-fn reason_of(error: Option<Error>) -> FileFault {
-    match error {
-        Some(error) => FileFault::System(error),
-        None => FileFault::System(ErrorKind::Other.into()),
-    }
+    Err(StreamFault::Input)
 }
 
 /// Copies the file at `path`, which was checked and has this digest, to `target`: with its mode and time of last change,
@@ -163,35 +125,25 @@ where
             });
         }
     };
-    match copy_bytes(&mut file, &mut draft.file) {
+    let (path, fault) = match copy_bytes(&mut file, &mut draft.file) {
         Ok(found) if found == *digest => match published_like(draft, &like) {
-            Ok(copy) => Ok(copy),
-            Err(fault) => Err(FileFailure {
-                path: target,
-                fault,
-            }),
+            Ok(copy) => return Ok(copy),
+            Err(fault) => (target, fault),
         },
-        Ok(_) => {
+        Err(StreamFault::Output) => match draft.abandon() {
+            Some(fault) => (target, fault),
+            None => (target, FileFault::System(ErrorKind::Other.into())),
+        },
+        Err(StreamFault::Input) => {
             draft.discard();
-            let fault = FileFault::System(ErrorKind::InvalidData.into());
-            Err(FileFailure { path, fault })
+            (path, read_failure(&file))
         }
-        Err(CopyFault::Input) => {
+        _ => {
             draft.discard();
-            let fault = reason_of(file.reason());
-            Err(FileFailure { path, fault })
+            (path, FileFault::System(ErrorKind::InvalidData.into()))
         }
-        Err(CopyFault::Output) => {
-            let fault = match draft.abandon() {
-                Some(fault) => fault,
-                None => reason_of(None),
-            };
-            Err(FileFailure {
-                path: target,
-                fault,
-            })
-        }
-    }
+    };
+    Err(FileFailure { path, fault })
 }
 
 /// Opens the file at a path, after its mode and time.
@@ -360,14 +312,15 @@ pub(crate) fn run_copies<'a, S: FileSystem, R: Files, W: Output>(
 where
     R::File: Lock,
 {
-    let Some((folder, paths)) = asked.words.split_last() else {
-        return Ending::Memory;
-    };
-    let folder: &'a str = folder;
+    let folder: &'a str = asked.folder;
+    let paths = asked.files.as_slice();
     match is_folder(files, folder) {
         Ok(true) => {}
-        Ok(false) => return unchecked(folder, FileFault::System(ErrorKind::NotADirectory.into())),
-        Err(fault) => return unchecked(folder, fault),
+        Ok(false) => return failed_ending(
+            folder,
+            FileFault::System(ErrorKind::NotADirectory.into()),
+        ),
+        Err(fault) => return failed_ending(folder, fault),
     }
     if let Some(path) = same_name(paths) {
         return match same_name_error(alloc, path) {

@@ -115,21 +115,11 @@ fn other_lines(alloc: Global, table: &Described) -> Result<String, AllocError> {
 /// A line for each part.
 fn add_parts(alloc: Global, parts: &[PartBytes], text: &mut String) -> Result<(), AllocError> {
     'parts: for (part, letter) in parts.iter().zip(PARTS.iter()) {
-        add_part(alloc, part, letter, text)?;
+        let order = hex::encode(alloc, part.order.as_slice())?;
+        let men = hex::encode(alloc, part.men.as_slice())?;
+        writeln!(text, "part {letter} order {order} men {men}")?;
     }
     Ok(())
-}
-
-/// A part's line.
-fn add_part(
-    alloc: Global,
-    part: &PartBytes,
-    letter: &str,
-    text: &mut String,
-) -> Result<(), AllocError> {
-    let order = hex::encode(alloc, part.order.as_slice())?;
-    let men = hex::encode(alloc, part.men.as_slice())?;
-    writeln!(text, "part {letter} order {order} men {men}")
 }
 
 /// A line for each subtable, and one for each map after its part's first.

@@ -3,21 +3,20 @@ ghost use Rattle.std.specs.Prelude.{◌≡◌, ◌⊎◌, true, false, IfErr, If
 ghost use Rattle.std.specs.Str.{bytes_eq};
 ghost use Rattle.clap.specs.Matches.{first_value, found_of};
 ghost use Rattle.clap.specs.Values.{kind_of as kind_of_error};
+ghost use Rattle.clap.specs.declared.error.kind.ErrorKind.{ErrorKind};
 ghost use Rattle.szg_named.specs.Named.{name_given, named_as};
 ghost use Rattle.szg_commands.specs.Requested.{parsed_report_format, words_of};
 ghost use Rattle.szg_commands.specs.Chosen.{AsksForJob, AsksForNoJob, IsWordsFault};
 ghost use Rattle.szg_commands.specs.Jobs.{AreOptionsIn, IsJobIn, IsShardIn, IsShardWord, kind_given};
-ghost use Rattle.szg_commands.specs.Words.{word_of};
 
 use crate::command_line::CommandForm;
 use crate::finding::Finder;
 use crate::fronts::is_look_up;
-use crate::numbers::{NumberFault, number};
+use crate::numbers::number;
 use crate::request::{
-    Request, Task, conflict_error, is_given, kind_of, missing_command, number_error, packing_in,
-    request_on, unused_by_plan, usage_error,
+    Request, Task, WordsFault, is_given, kind_of, missing_command, packing_in, request_on,
+    unused_by_plan, words_error,
 };
-use clap::error::ErrorKind;
 use clap::{ArgMatches, Error};
 use std::alloc::{AllocError, Global};
 use szg_named::{CheckOptions, FileShard, Naming, ReportFormat, named_as, named_by};
@@ -54,34 +53,6 @@ pub enum FileJob<'a> {
         source: &'a str,
     },
 }
-
-/// Why the words of a command that names files make no job.
-#[derive(Clone, Copy)]
-enum WordsFault<'a> {
-    /// A word is none of its argument's numbers.
-    Number(NumberFault<'a>),
-    /// The file's ending names no kind, and none is given.
-    Kind,
-    /// A word is no shard.
-    Shard(&'a str),
-    /// A growth was refused.
-    Memory,
-}
-
-impl<'a> From<NumberFault<'a>> for WordsFault<'a> {
-    ghost use Rattle.std.specs.Prelude.{◌≡◌};
-    ghost use Rattle.szg_commands.specs.declared.file_words.WordsFault.TheVariants.{Number};
-
-    ghost from_gives = { λ fault stated. stated ≡ Number fault };
-
-    fn from(fault: NumberFault<'a>) -> WordsFault<'a> {
-        WordsFault::Number(fault)
-    }
-}
-
-/// What is printed if no kind is known.
-const KIND_MISSING: &str =
-    "the file's ending is neither .rtbw nor .rtbz: give its kind by '--kind <KIND>'";
 
 /// Whether a word is an option that only commands on files have.
 fn is_file_option(word: &str) -> bool {
@@ -179,35 +150,12 @@ pub fn parse_files<'a, F: Finder>(
         return Err(missing_command(alloc, form)?);
     };
     if let Some(argument) = unused_by_plan(chosen) {
-        return Err(conflict_error(alloc, command, form, argument)?);
+        return Err(words_error(alloc, command, form, WordsFault::Unused(argument))?);
     }
     match job_in(alloc, command, chosen) {
         Ok(job) => Ok(job),
-        Err(WordsFault::Number(fault)) => Err(number_error(alloc, command, form, fault)?),
-        Err(WordsFault::Kind) => Err(usage_error(
-            alloc,
-            command,
-            form,
-            ErrorKind::MissingRequiredArgument,
-            KIND_MISSING,
-        )?),
-        Err(WordsFault::Shard(word)) => Err(shard_error(alloc, word)?),
-        Err(WordsFault::Memory) => Err(Error::from(AllocError)),
+        Err(fault) => Err(words_error(alloc, command, form, fault)?),
     }
-}
-
-/// Creates the error of a word that is no shard.
-fn shard_error(alloc: Global, word: &str) -> Result<Error, AllocError> {
-    let message = format!(in alloc;
-        "invalid value '{word}' for '--shard <K/N>': not a number K from 1 to N, a slash and N"
-    )?;
-    usage_error(
-        alloc,
-        "check",
-        CommandForm::Files,
-        ErrorKind::ValueValidation,
-        message.as_str(),
-    )
 }
 
 /// The name and the kind that are given.

@@ -1,23 +1,20 @@
 //! Look-ups in a file by its front: the file is read and checked up to its blocks, and then at most one block, or the last
 //! bytes.
 
-ghost use Rattle.std.specs.Prelude.{◌≡◌, ℕ, ◌+◌, ◌≤◌, ◌<◌, [], length, Ok, IfOk, IfSome, IfErr, IsErrOf, IsNone, IsSome, IsSomeAnd, Some, option_map, string_bytes, false, true};
+ghost use Rattle.std.specs.Prelude.{◌≡◌, ℕ, ◌≤◌, ◌<◌, [], length, Ok, IfOk, IfErr, IsErrOf, IsSome, IsSomeAnd, Some, option_map, string_bytes, false, true};
 ghost use Rattle.szg_file.specs.Index.{slot_in};
-ghost use Rattle.szg_file.specs.Unread.{front_in};
 ghost use Rattle.szg_place.specs.Probes.{as_number};
-ghost use Rattle.szg_place.specs.Spots.{place_fault, spot_of};
-ghost use Rattle.szg_place.specs.Tables.{numbering_in};
-ghost use Rattle.szg_commands.specs.Answers.{number_of_class, spot_line};
+ghost use Rattle.szg_commands.specs.Answers.{number_of_class};
 ghost use Rattle.szg_commands.specs.Fronts.{AnswersIn, IsBadBlockAt, IsBlockRead, IsDecodedAt, IsFetchedIn, IsFrontTaken, IsLookUp, IsLookUpAnswer, IsLookUpRefused, IsMapRefusal, IsMeaningLine, IsUnfetched, IsUnhad, IsUnopened, MeetsIn};
-ghost use Rattle.szg_commands.specs.Refusals.{index_refusal, place_refusal};
+ghost use Rattle.szg_commands.specs.Refusals.{index_refusal};
 ghost use Rattle.szg_files.specs.declared.file_system.FileFault.{FileFault as Fault};
 ghost use Rattle.szg_commands.specs.declared.refusal.Refusal.{Refusal};
 
 use crate::description::front_description;
-use crate::placements::{class_line, spot_line};
+use crate::placements::{class_line, index_line};
 use crate::refusal::{Refusal, Stop};
-use crate::request::{Action, Class, Request};
-use std::alloc::{AllocError, Global};
+use crate::request::{Action, AskedClass, Request};
+use std::alloc::Global;
 use std::io::ErrorKind;
 use szg_file::{ByteRange, FetchFault, FrontTable, MapFault, ReadFault, TableIndex, open_front};
 use szg_files::{FileFault, FileSystem, RangeFault, Reasons, read_range};
@@ -33,27 +30,6 @@ pub struct OpenedFront {
     pub read: u64,
     /// The number of bytes of the file.
     pub size: u64,
-}
-
-/// Why a look-up has no answer.
-#[derive(Clone, Copy)]
-pub enum LookUpStop {
-    /// It is refused.
-    Refused(Refusal),
-    /// The file failed, or memory was short.
-    Failed(FileFault),
-}
-
-impl From<AllocError> for LookUpStop {
-    ghost use Rattle.std.specs.Prelude.{◌≡◌};
-    ghost use Rattle.szg_files.specs.declared.file_system.FileFault.TheVariants.{Memory};
-    ghost use Rattle.szg_commands.specs.declared.fronts.LookUpStop.TheVariants.{Failed};
-
-    ghost from_gives = { λ _ stop. stop ≡ Failed Memory };
-
-    fn from(_failed: AllocError) -> LookUpStop {
-        LookUpStop::Failed(FileFault::Memory)
-    }
 }
 
 /// Whether an action is a look-up: it needs a table's front, and at most one block or the last bytes.
@@ -130,28 +106,28 @@ fn value_by<S: FileSystem>(
     file: S::File,
     opened: &OpenedFront,
     spot: Spot,
-) -> Result<u16, LookUpStop>
+) -> Result<u16, Stop<FileFault>>
     requires below { IsSomeAnd (slot_in opened.now.front.index spot.part spot.side) (λ slot. spot.index < slot.size) }
     requires room { opened.now.read ≤ opened.now.size }
     requires size { opened.now.front.length ≡ opened.now.size }
     ensures value { IfOk result (λ value. IsFetchedIn S.File.Input file opened.now.front opened.now.read opened.now.size (λ content t. IsDecodedAt t spot.part spot.side spot.index value)) }
-    ensures refused { (refusal : Refusal) → IsErrOf result (LookUpStop.Refused refusal) → IsFetchedIn S.File.Input file opened.now.front opened.now.read opened.now.size (λ content t. IsBadBlockAt content t spot.part spot.side spot.index refusal) }
-    ensures failed { (fault : Fault) → IsErrOf result (LookUpStop.Failed fault) → IsUnfetched S.File.Input file opened.now.front opened.now.read opened.now.size spot.part spot.side spot.index fault }
+    ensures refused { (refusal : Refusal) → IsErrOf result (Stop.Refused refusal) → IsFetchedIn S.File.Input file opened.now.front opened.now.read opened.now.size (λ content t. IsBadBlockAt content t spot.part spot.side spot.index refusal) }
+    ensures failed { (fault : Fault) → IsErrOf result (Stop.Failed fault) → IsUnfetched S.File.Input file opened.now.front opened.now.read opened.now.size spot.part spot.side spot.index fault }
 {
     let front = &opened.front;
     let located = front.locate(spot.part, spot.side, spot.index);
     let block = match block_read(alloc, system, file, opened.read, located.range()) {
         Ok(block) => block,
-        Err(fault) => return Err(LookUpStop::Failed(fault)),
+        Err(fault) => return Err(Stop::Failed(fault)),
     };
     match located.decode(&block) {
         Ok(value) => Ok(value),
         Err(FetchFault::Block { number, offset }) => {
-            Err(LookUpStop::Refused(Refusal::Block(number, offset)))
+            Err(Stop::Refused(Refusal::Block(number, offset)))
         }
         // no file has such a block: it has the range's length
         Err(FetchFault::Source) => {
-            Err(LookUpStop::Failed(FileFault::System(ErrorKind::UnexpectedEof.into())))
+            Err(Stop::Failed(FileFault::System(ErrorKind::UnexpectedEof.into())))
         }
     }
 }
@@ -173,7 +149,7 @@ fn requested_spot(front: &FrontTable, part: u8, side: u8, index: u64) -> Result<
 }
 
 /// The number of a DTZ value of a part in a class.
-fn number_in(index: &TableIndex, part: u8, class: Class, value: u16) -> Result<u32, MapFault>
+fn number_in(index: &TableIndex, part: u8, class: AskedClass, value: u16) -> Result<u32, MapFault>
     requires kind { index.now.kind ≡ Kind.Dtz }
     requires part { IsSome (slot_in index.now part 0) }
     ensures { result ≡ as_number index.now part (number_of_class class) value }
@@ -186,18 +162,18 @@ fn meaning_line(
     alloc: Global,
     index: &TableIndex,
     part: u8,
-    class: Class,
+    class: AskedClass,
     value: u16,
-) -> Result<String, LookUpStop>
+) -> Result<String, Stop<FileFault>>
     requires { index.now.kind ≡ Kind.Dtz → IsSome (slot_in index.now part 0) }
     ensures stated { IfOk result (λ line. IsMeaningLine index.now.kind index.now part class value (string_bytes line)) }
-    ensures refused { (refusal : Refusal) → IsErrOf result (LookUpStop.Refused refusal) → IsMapRefusal index.now.kind index.now part class value refusal }
+    ensures refused { (refusal : Refusal) → IsErrOf result (Stop.Refused refusal) → IsMapRefusal index.now.kind index.now part class value refusal }
 {
     match index.kind() {
         Kind::Wdl => Ok(class_line(alloc, class_of(value))?),
         Kind::Dtz => match number_in(index, part, class, value) {
             Ok(number) => Ok(format!(in alloc; "{number}\n")?),
-            Err(fault) => Err(LookUpStop::Refused(Refusal::Map(fault))),
+            Err(fault) => Err(Stop::Refused(Refusal::Map(fault))),
         },
     }
 }
@@ -210,36 +186,21 @@ fn get_line<S: FileSystem>(
     opened: &OpenedFront,
     request: &Request,
     index: u64,
-) -> Result<String, LookUpStop>
+) -> Result<String, Stop<FileFault>>
     requires room { opened.now.read ≤ opened.now.size }
     requires size { opened.now.front.length ≡ opened.now.size }
     ensures stated { IfOk result (λ line. IsFetchedIn S.File.Input file opened.now.front opened.now.read opened.now.size (λ content t. IsLookUpAnswer (Action.Get index) request.now.part request.now.side content t (string_bytes line))) }
-    ensures refused { (refusal : Refusal) → IsErrOf result (LookUpStop.Refused refusal) → IsFetchedIn S.File.Input file opened.now.front opened.now.read opened.now.size (λ content t. IsLookUpRefused (Action.Get index) request.now.part request.now.side content t refusal) }
+    ensures refused { (refusal : Refusal) → IsErrOf result (Stop.Refused refusal) → IsFetchedIn S.File.Input file opened.now.front opened.now.read opened.now.size (λ content t. IsLookUpRefused (Action.Get index) request.now.part request.now.side content t refusal) }
 {
     let spot = match requested_spot(&opened.front, request.part, request.side, index) {
         Ok(spot) => spot,
-        Err(refusal) => return Err(LookUpStop::Refused(refusal)),
+        Err(refusal) => return Err(Stop::Refused(refusal)),
     };
     let value = match value_by(alloc, system, file, opened, spot) {
         Ok(value) => value,
         Err(stop) => return Err(stop),
     };
     Ok(format!(in alloc; "{value}\n")?)
-}
-
-/// The line of a placement's spot. It reads no block.
-fn index_line(
-    alloc: Global,
-    front: &FrontTable,
-    placement: &Placement,
-) -> Result<String, LookUpStop>
-    ensures stated { IfOk result (λ line. IsNone (place_fault (numbering_in front.now.index) placement.now) × (string_bytes line ≡ spot_line (spot_of (numbering_in front.now.index) placement.now))) }
-    ensures refused { (refusal : Refusal) → IsErrOf result (LookUpStop.Refused refusal) → place_refusal (place_fault (numbering_in front.now.index) placement.now) ≡ Some refusal }
-{
-    match locate(front.index(), &PlacedMen::of(placement)) {
-        Ok(spot) => Ok(spot_line(alloc, spot)?),
-        Err(fault) => Err(LookUpStop::Refused(Refusal::Place(fault))),
-    }
 }
 
 /// The line of a placement's class or number.
@@ -249,16 +210,16 @@ fn probe_line<S: FileSystem>(
     file: S::File,
     opened: &OpenedFront,
     placement: &Placement,
-    class: Class,
-) -> Result<String, LookUpStop>
+    class: AskedClass,
+) -> Result<String, Stop<FileFault>>
     requires room { opened.now.read ≤ opened.now.size }
     requires size { opened.now.front.length ≡ opened.now.size }
     ensures stated { IfOk result (λ line. (part side : ℕ) → IsFetchedIn S.File.Input file opened.now.front opened.now.read opened.now.size (λ content t. IsLookUpAnswer (Action.Probe placement.now class) part side content t (string_bytes line))) }
-    ensures refused { (refusal : Refusal) → IsErrOf result (LookUpStop.Refused refusal) → (part side : ℕ) → IsFetchedIn S.File.Input file opened.now.front opened.now.read opened.now.size (λ content t. IsLookUpRefused (Action.Probe placement.now class) part side content t refusal) }
+    ensures refused { (refusal : Refusal) → IsErrOf result (Stop.Refused refusal) → (part side : ℕ) → IsFetchedIn S.File.Input file opened.now.front opened.now.read opened.now.size (λ content t. IsLookUpRefused (Action.Probe placement.now class) part side content t refusal) }
 {
     let spot = match locate(opened.front.index(), &PlacedMen::of(placement)) {
         Ok(spot) => spot,
-        Err(fault) => return Err(LookUpStop::Refused(Refusal::Place(fault))),
+        Err(fault) => return Err(Stop::Refused(Refusal::Place(fault))),
     };
     let value = match value_by(alloc, system, file, opened, spot) {
         Ok(value) => value,
@@ -273,18 +234,18 @@ fn show_lines<S: FileSystem>(
     system: &S,
     file: S::File,
     opened: &OpenedFront,
-) -> Result<String, LookUpStop>
+) -> Result<String, Stop<FileFault>>
     requires room { opened.now.read ≤ opened.now.size }
     requires size { opened.now.front.length ≡ opened.now.size }
     ensures stated { IfOk result (λ text. (part side : ℕ) → IsFetchedIn S.File.Input file opened.now.front opened.now.read opened.now.size (λ content t. IsLookUpAnswer Action.Show part side content t (string_bytes text))) }
-    ensures answered { (refusal : Refusal) → IsErrOf result (LookUpStop.Refused refusal) → ⊥ }
+    ensures answered { (refusal : Refusal) → IsErrOf result (Stop.Refused refusal) → ⊥ }
 {
     let front = &opened.front;
     let offset = front.ending();
     let ending = ByteRange { offset, count: 16 };
     let last = match block_read(alloc, system, file, opened.read, Some(ending)) {
         Ok(last) => last,
-        Err(fault) => return Err(LookUpStop::Failed(fault)),
+        Err(fault) => return Err(Stop::Failed(fault)),
     };
     let text = front_description(alloc, front, &last)?;
     Ok(text)
@@ -297,17 +258,17 @@ fn look_up_line<S: FileSystem>(
     file: S::File,
     opened: &OpenedFront,
     request: &Request,
-) -> Result<String, LookUpStop>
+) -> Result<String, Stop<FileFault>>
     requires looks { IsLookUp request.now.action }
     requires room { opened.now.read ≤ opened.now.size }
     requires size { opened.now.front.length ≡ opened.now.size }
     ensures stated { IfOk result (λ line. IsFetchedIn S.File.Input file opened.now.front opened.now.read opened.now.size (λ content t. IsLookUpAnswer request.now.action request.now.part request.now.side content t (string_bytes line))) }
-    ensures refused { (refusal : Refusal) → IsErrOf result (LookUpStop.Refused refusal) → IsFetchedIn S.File.Input file opened.now.front opened.now.read opened.now.size (λ content t. IsLookUpRefused request.now.action request.now.part request.now.side content t refusal) }
+    ensures refused { (refusal : Refusal) → IsErrOf result (Stop.Refused refusal) → IsFetchedIn S.File.Input file opened.now.front opened.now.read opened.now.size (λ content t. IsLookUpRefused request.now.action request.now.part request.now.side content t refusal) }
 {
     match &request.action {
         Action::Show => show_lines(alloc, system, file, opened),
         Action::Get(index) => get_line(alloc, system, file, opened, request, *index),
-        Action::Index(placement) => index_line(alloc, &opened.front, placement),
+        Action::Index(placement) => index_line(alloc, opened.front.index(), placement),
         Action::Probe(placement, class) => {
             probe_line(alloc, system, file, opened, placement, *class)
         }
@@ -321,22 +282,22 @@ pub fn answer_in<S: FileSystem>(
     system: &S,
     file: S::File,
     request: &Request,
-) -> Result<String, LookUpStop>
+) -> Result<String, Stop<FileFault>>
     requires unread { S.File.moved file ≡ [] }
     requires looks { IsLookUp request.now.action }
     ensures stated { IfOk result (λ line. AnswersIn S.File.Input request.now file (string_bytes line)) }
-    ensures refused { (refusal : Refusal) → IsErrOf result (LookUpStop.Refused refusal) → MeetsIn S.File.Input request.now file refusal }
+    ensures refused { (refusal : Refusal) → IsErrOf result (Stop.Refused refusal) → MeetsIn S.File.Input request.now file refusal }
 {
     let mut file = file;
     let size = match system.len(&file) {
         Ok(size) => size,
-        Err(fault) => return Err(LookUpStop::Failed(fault)),
+        Err(fault) => return Err(Stop::Failed(fault)),
     };
     match opened_front(alloc, request, size, &mut file) {
         Ok(opened) => look_up_line(alloc, system, file, &opened, request),
-        Err(Stop::Refused(refusal)) => Err(LookUpStop::Refused(refusal)),
-        Err(Stop::Memory) => Err(LookUpStop::Failed(FileFault::Memory)),
-        Err(Stop::Device) => Err(LookUpStop::Failed(read_failure(&file))),
+        Err(Stop::Refused(refusal)) => Err(Stop::Refused(refusal)),
+        Err(Stop::Memory) => Err(Stop::Memory),
+        Err(Stop::Device) => Err(Stop::Failed(read_failure(&file))),
     }
 }
 

@@ -25,6 +25,7 @@ mod request;
 mod results;
 mod running;
 mod saying;
+mod sorting;
 mod statuses;
 mod streaming;
 mod verification;

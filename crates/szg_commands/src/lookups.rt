@@ -1,9 +1,9 @@
 //! The commands that look values up.
 
-ghost use Rattle.std.specs.Prelude.{◌≡◌, ◌⊎◌, ℕ, ◌<◌, List, ◌++◌, flat_map, Some, None, IsSome, IsSomeAnd, IfSome, IfErr, OnOk, OnErr, IfOk, Err, IsErrOf, replicate, string_bytes};
+ghost use Rattle.std.specs.Prelude.{◌≡◌, ◌⊎◌, ℕ, ◌<◌, List, ◌++◌, flat_map, Some, None, IsSome, IfSome, IfErr, OnOk, IfOk, Err, IsErrOf, replicate, string_bytes};
 ghost use Rattle.szg_io.specs.Device.{HasFailed};
 ghost use Rattle.szg_io.specs.Moved.{Gives};
-ghost use Rattle.szg_file.specs.Values.{subtable_at, values_of};
+ghost use Rattle.szg_file.specs.Values.{subtable_at};
 ghost use Rattle.szg_commands.specs.Answers.{IsAnswer, counted_line, number_line};
 ghost use Rattle.szg_commands.specs.Refusals.{IsRefused, index_refusal, size_at};
 ghost use Rattle.szg_commands.specs.declared.refusal.Refusal.{Refusal};

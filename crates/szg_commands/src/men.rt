@@ -36,14 +36,7 @@ pub fn placement_in(words: &[&str], mover: Color) -> Result<Placement, Refusal>
 fn are_man_words(words: &[&str]) -> bool
     ensures { result ≡ list_all (λ word. is_man_word word.now) words.now }
 {
-    words.iter().all(|word| is_man_word(word))
-}
-
-/// Returns whether a word is a man's.
-fn is_man_word(word: &str) -> bool
-    ensures { result ≡ is_man_word word.now }
-{
-    man_in(word).is_some()
+    words.iter().all(|word| man_in(word).is_some())
 }
 
 /// Parses the men of words.

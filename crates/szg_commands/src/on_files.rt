@@ -1,34 +1,32 @@
 //! Commands on files by their paths.
-ghost use Rattle.std.specs.Prelude.{◌≡◌, ◌⊎◌, [], None, Some, IfErr, IfOk, IsErrOf, IfSome, map, option_map};
+ghost use Rattle.std.specs.Prelude.{◌≡◌, ◌⊎◌, [], None, Some, IfOk, IsErrOf, IfSome, IsSome, IsNone, OnOk, map, option_map};
 ghost use Rattle.szg_files.specs.Draft.{draft_target, published_target, published_text, text_of};
 ghost use Rattle.szg_io.specs.Device.{HasFailed};
 ghost use Rattle.szg_io.specs.Moved.{Gives};
 ghost use Rattle.szg_named.specs.Requested.{files_to_check};
 ghost use Rattle.szg_named.specs.Verdicts.{IsFoundReport, IsReport, plain_options};
 ghost use Rattle.szg_commands.specs.Fronts.{IsLookUp};
-ghost use Rattle.szg_commands.specs.OnFiles.{AreChecked, EndsCheck, IsAskedReport, IsGiven, EndsTask, EndsWell, HasDoneTask, HasLookedUp, HasRefusedLookUp, HasRefusedTask, IsCarriedFrom, IsCarriedTo, IsListing, IsPublishedBy, IsPublishedFrom, IsShortOfMemory, IsStarted, IsStartedFrom, IsTargetOf, IsUnwritten, MeetsFrom, asked_of};
+ghost use Rattle.szg_commands.specs.OnFiles.{AreChecked, EndsCheck, IsAskedReport, IsGiven, EndsTask, EndsWell, HasDoneTask, HasLookedUp, HasRefusedLookUp, HasRefusedTask, IsListing, IsShortOfMemory, IsTargetOf, IsUnwritten, ListsFile, ListsValues, MeetsTask, asked_of};
 ghost use Rattle.szg_commands.specs.RefusalLines.{refusal_line};
-ghost use Rattle.szg_commands.specs.Requests.{Meets, IsListed};
 ghost use Rattle.szg_commands.specs.declared.on_files.FileFailure.{FileFailure};
-ghost use Rattle.szg_commands.specs.declared.on_files.FileStop.{FileStop};
 ghost use Rattle.szg_commands.specs.declared.refusal.Refusal.{Refusal};
 
 use crate::commands::{carry_out, refuse, run_by, words_outcome};
 use crate::file_words::{CheckJob, FileJob, names_files, parse_files};
 use crate::finding::Finder;
-use crate::fronts::{LookUpStop, answer_in, read_failure};
+use crate::fronts::{answer_in, read_failure};
 use crate::outcome::Outcome;
 use crate::refusal::{Refusal, Stop};
 use crate::request::{Request, Task};
 use crate::saying::say;
-use crate::streaming::{is_listed, stream_from};
+use crate::streaming::{device_stop, lists_values, stream_from};
 use std::alloc::Global;
 use std::io::ErrorKind;
 use std::rt::Files;
 use std::time::Clock;
 use szg_build::Watcher;
 use szg_file::{ReadFault, open_front};
-use szg_files::{Disk, Draft, FileFault, FileSystem, Lock, Published, Reasons};
+use szg_files::{Disk, Draft, FileFault, FileSystem, Lock, Published};
 use szg_io::{Input, Output, give_whole};
 use szg_named::{
     CheckOptions, CheckReport, ListFailure, ListFault, Log, check_files, check_found,
@@ -44,62 +42,17 @@ pub struct FileFailure<'a> {
     pub fault: FileFault,
 }
 
-/// Why a task that names files wasn't carried out.
-#[derive(Clone, Copy)]
-pub enum FileStop<'a> {
-    /// It is refused.
-    Refused(Refusal),
-    /// A file failed.
-    Failed(FileFailure<'a>),
-    /// Standard input or output failed.
-    Device,
-    /// A growth was refused.
-    Memory,
-}
-
-/// Carries a task out on `input`, and writes its answer to the file at `target`: whole, or not at all.
-fn carry_out_into<'a, I: Input, R: Files, V: Watcher>(
-    alloc: Global,
-    task: &Task,
-    input: &mut I,
-    files: &'a R,
-    target: &'a str,
-    watcher: &mut V,
-) -> Result<Published<'a>, FileStop<'a>>
-where
-    R::File: Lock,
-    ensures stated { IfOk result (λ published. IsPublishedBy I.Input task.now target.now input.old input.new published) }
-    ensures refused { (refusal : Refusal) → IsErrOf result (FileStop.Refused refusal) → Meets I.Input task.now input.old input.new refusal }
-{
-    let mut draft = match Draft::create(alloc, files, target) {
-        Ok(draft) => draft,
-        Err(fault) => return Err(failed(target, fault)),
-    };
-    match carry_out(alloc, task, input, &mut draft.file, watcher) {
-        Ok(()) => published(alloc, draft, files, target),
-        Err(Stop::Refused(refusal)) => {
-            draft.discard();
-            Err(FileStop::Refused(refusal))
-        }
-        Err(Stop::Memory) => {
-            draft.discard();
-            Err(FileStop::Memory)
-        }
-        Err(Stop::Device) => match draft.abandon() {
-            Some(fault) => Err(failed(target, fault)),
-            None => Err(FileStop::Device),
-        },
-    }
-}
+/// Why a task on files wasn't carried out.
+pub(crate) type FileStop<'a> = Stop<FileFailure<'a>>;
 
 /// Why a file stops a task.
 pub fn failed(path: &str, fault: FileFault) -> FileStop<'_>
-    ensures refused { (refusal : Refusal) → (result ≡ FileStop.Refused refusal) → ⊥ }
-    ensures memory { (result ≡ FileStop.Memory) → fault ≡ FileFault.Memory }
+    ensures refused { (refusal : Refusal) → (result ≡ Stop.Refused refusal) → ⊥ }
+    ensures memory { (result ≡ Stop.Memory) → fault ≡ FileFault.Memory }
 {
     match fault {
-        FileFault::Memory => FileStop::Memory,
-        fault => FileStop::Failed(FileFailure { path, fault }),
+        FileFault::Memory => Stop::Memory,
+        fault => Stop::Failed(FileFailure { path, fault }),
     }
 }
 
@@ -135,7 +88,7 @@ fn published<'a, R: Files>(
 ) -> Result<Published<'a>, FileStop<'a>>
     ensures text { IfOk result (λ published. published_text published ≡ text_of draft.entry.file) }
     ensures target { IfOk result (λ published. published_target published ≡ draft_target draft.entry) }
-    ensures refused { (refusal : Refusal) → IsErrOf result (FileStop.Refused refusal) → ⊥ }
+    ensures refused { (refusal : Refusal) → IsErrOf result (Stop.Refused refusal) → ⊥ }
 {
     let sealed = match draft.seal(None) {
         Ok(sealed) => sealed,
@@ -158,100 +111,93 @@ fn published<'a, R: Files>(
     }
 }
 
-/// Carries a task out on `input`; its answer goes to the file at `target`, else to `writer`. Where it is refused nothing
-/// was written.
-fn carry_out_to<'a, I: Input, R: Files, W: Output, V: Watcher>(
+/// Carries a task out on the reader, or writes the values of the file at `source` while that is read. Where it is refused
+/// nothing was written.
+fn carry_out_on<'a, S: FileSystem, R: Input, W: Output, V: Watcher>(
     alloc: Global,
     task: &Task,
-    input: &mut I,
-    files: &'a R,
+    source: Option<&'a str>,
+    system: &mut S,
+    reader: &mut R,
+    writer: &mut W,
+    watcher: &mut V,
+) -> Result<(), FileStop<'a>>
+    requires listed { IsSome source → ListsValues task.now }
+    ensures stated { OnOk result (HasDoneTask S.content S.failures S.File.Input R.Input W.Output task.now source.entry None system.old system.new reader.old reader.new writer.old writer.new None) }
+    ensures refused { (refusal : Refusal) → IsErrOf result (Stop.Refused refusal) → (writer.new ≡ writer.old)
+        × MeetsTask S.content S.failures S.File.Input R.Input task.now source.entry system.old system.new reader.old reader.new refusal }
+    // where values are written while the file is read, a part of them may be written then
+    ensures failed { (failure : FileFailure) → IsErrOf result (Stop.Failed failure) → ListsFile task.now source.entry }
+    ensures device { IsErrOf result Stop.Device → ListsFile task.now source.entry ⊎ IsUnwritten W.Output writer.old writer.new }
+    ensures memory { IsErrOf result Stop.Memory → ListsFile task.now source.entry ⊎ IsShortOfMemory S.content S.failures S.File.Input R.Input W.Output task.now source.entry system.old system.new reader.old reader.new writer.old writer.new }
+    ensures reader { IsSome source.entry → reader.new ≡ reader.old }
+    ensures system { IsNone source.entry → system.new ≡ system.old }
+{
+    let source = match source {
+        Some(source) => source,
+        None => return match carry_out(alloc, task, reader, writer, watcher) {
+            Ok(()) => Ok(()),
+            Err(Stop::Refused(refusal)) => Err(Stop::Refused(refusal)),
+            Err(Stop::Device) => Err(Stop::Device),
+            Err(Stop::Memory) => Err(Stop::Memory),
+        },
+    };
+    match task {
+        Task::OnTable(request) => stream_from(alloc, request, source, system, writer),
+        Task::Build(_) => unreachable!(),
+    }
+}
+
+/// Carries a task out as `carry_out_on`; its answer goes to the file at `target`, whole or not at all, else to the writer.
+fn carry_out_to<'a, S: FileSystem, D: Files, R: Input, W: Output, V: Watcher>(
+    alloc: Global,
+    task: &Task,
+    source: Option<&'a str>,
     target: Option<&'a str>,
+    system: &mut S,
+    files: &'a D,
+    reader: &mut R,
     writer: &mut W,
     watcher: &mut V,
 ) -> Result<Option<Published<'a>>, FileStop<'a>>
 where
-    R::File: Lock,
-    ensures stated { IfOk result (λ published. IsCarriedTo I.Input W.Output task.now (option_map (λ path. path.now) target.entry) input.old input.new writer.old writer.new published) }
-    ensures refused { (refusal : Refusal) → IsErrOf result (FileStop.Refused refusal) → (writer.new ≡ writer.old) × Meets I.Input task.now input.old input.new refusal }
-    ensures failed { (failure : FileFailure) → IsErrOf result (FileStop.Failed failure) → writer.new ≡ writer.old }
-    ensures device { IsErrOf result FileStop.Device → IsUnwritten W.Output writer.old writer.new }
-    ensures memory { IsErrOf result FileStop.Memory → IsStarted I.Input W.Output task.now input.old input.new writer.old writer.new }
+    D::File: Lock,
+    requires listed { IsSome source → ListsValues task.now }
+    ensures stated { IfOk result (λ published. HasDoneTask S.content S.failures S.File.Input R.Input W.Output task.now source.entry target.entry system.old system.new reader.old reader.new writer.old writer.new published) }
+    ensures refused { (refusal : Refusal) → IsErrOf result (Stop.Refused refusal) → (writer.new ≡ writer.old)
+        × MeetsTask S.content S.failures S.File.Input R.Input task.now source.entry system.old system.new reader.old reader.new refusal }
+    ensures failed { (failure : FileFailure) → IsErrOf result (Stop.Failed failure) → IsListing task.now source.entry target.entry ⊎ IsUnwritten W.Output writer.old writer.new }
+    ensures device { IsErrOf result Stop.Device → IsListing task.now source.entry target.entry ⊎ IsUnwritten W.Output writer.old writer.new }
+    ensures memory { IsErrOf result Stop.Memory → IsListing task.now source.entry target.entry
+        ⊎ IsShortOfMemory S.content S.failures S.File.Input R.Input W.Output task.now source.entry system.old system.new reader.old reader.new writer.old writer.new }
 {
-    match target {
-        Some(target) => match carry_out_into(alloc, task, input, files, target, watcher) {
-            Ok(published) => Ok(Some(published)),
+    let target = match target {
+        Some(target) => target,
+        None => return match carry_out_on(alloc, task, source, system, reader, writer, watcher) {
+            Ok(()) => Ok(None),
             Err(stop) => Err(stop),
         },
-        None => match carry_out(alloc, task, input, writer, watcher) {
-            Ok(()) => Ok(None),
-            Err(Stop::Refused(refusal)) => Err(FileStop::Refused(refusal)),
-            Err(Stop::Device) => Err(FileStop::Device),
-            Err(Stop::Memory) => Err(FileStop::Memory),
-        },
-    }
-}
-
-/// Carries a task out on the file at `source`; its answer goes to the file at `target`, else to `writer`. Where it is
-/// refused nothing was written.
-fn carry_out_from<'a, S: FileSystem, R: Files, W: Output, V: Watcher>(
-    alloc: Global,
-    task: &Task,
-    source: &'a str,
-    target: Option<&'a str>,
-    system: &mut S,
-    files: &'a R,
-    writer: &mut W,
-    watcher: &mut V,
-) -> Result<Option<Published<'a>>, FileStop<'a>>
-where
-    R::File: Lock,
-    ensures stated { IfOk result (λ published. IsCarriedFrom S.content S.failures S.File.Input W.Output task.now source.now (option_map (λ path. path.now) target.entry) system.old system.new writer.old writer.new published) }
-    ensures refused { (refusal : Refusal) → IsErrOf result (FileStop.Refused refusal) → (writer.new ≡ writer.old)
-        × MeetsFrom S.content S.failures S.File.Input task.now source.now system.old system.new refusal }
-    ensures failed { (failure : FileFailure) → IsErrOf result (FileStop.Failed failure) → IsUnwritten W.Output writer.old writer.new }
-    ensures device { IsErrOf result FileStop.Device → IsUnwritten W.Output writer.old writer.new }
-    ensures memory { IsErrOf result FileStop.Memory → IsStartedFrom S.content S.failures S.File.Input W.Output task.now source.now system.old system.new writer.old writer.new }
-{
-    let mut file = match system.open(source) {
-        Ok(file) => file,
-        Err(fault) => return Err(failed(source, fault)),
     };
-    match carry_out_to(alloc, task, &mut file, files, target, writer, watcher) {
-        Ok(published) => Ok(published),
-        Err(FileStop::Device) => match file.reason() {
-            Some(error) => Err(failed(source, FileFault::System(error))),
-            None => Err(FileStop::Device),
-        },
-        Err(FileStop::Refused(refusal)) => Err(FileStop::Refused(refusal)),
-        Err(FileStop::Failed(failure)) => Err(FileStop::Failed(failure)),
-        Err(FileStop::Memory) => Err(FileStop::Memory),
-    }
-}
-
-/// Writes the values or the dump of the file at `source`, while it is read, to the file at `target`: whole, or not at all.
-fn stream_into<'a, S: FileSystem, R: Files>(
-    alloc: Global,
-    request: &Request,
-    source: &'a str,
-    target: &'a str,
-    system: &mut S,
-    files: &'a R,
-) -> Result<Published<'a>, FileStop<'a>>
-where
-    R::File: Lock,
-    requires listed { IsListed request.now.action }
-    ensures stated { IfOk result (λ published. IsPublishedFrom S.content S.failures S.File.Input (Task.OnTable request.now) source.now target.now system.old system.new published) }
-    ensures refused { (refusal : Refusal) → IsErrOf result (FileStop.Refused refusal) → MeetsFrom S.content S.failures S.File.Input (Task.OnTable request.now) source.now system.old system.new refusal }
-{
     let mut draft = match Draft::create(alloc, files, target) {
         Ok(draft) => draft,
         Err(fault) => return Err(failed(target, fault)),
     };
-    match stream_from(alloc, request, source, system, &mut draft.file) {
-        Ok(()) => published(alloc, draft, files, target),
-        Err(FileStop::Device) => match draft.abandon() {
+    match carry_out_on(
+        alloc,
+        task,
+        source,
+        system,
+        reader,
+        &mut draft.file,
+        watcher,
+    ) {
+        Ok(()) => match published(alloc, draft, files, target) {
+            Ok(published) => Ok(Some(published)),
+            Err(stop) => Err(stop),
+        },
+        Err(Stop::Device) => match draft.abandon() {
             Some(fault) => Err(failed(target, fault)),
-            None => Err(FileStop::Device),
+            None => Err(Stop::Device),
         },
         Err(stop) => {
             draft.discard();
@@ -260,63 +206,47 @@ where
     }
 }
 
-/// Writes the values or the dump of the file at `source`, while it is read, to the file at `target`, else to `writer`.
-fn stream_to<'a, S: FileSystem, R: Files, W: Output>(
-    alloc: Global,
-    request: &Request,
-    source: &'a str,
-    target: Option<&'a str>,
-    system: &mut S,
-    files: &'a R,
-    writer: &mut W,
-) -> Result<Option<Published<'a>>, FileStop<'a>>
-where
-    R::File: Lock,
-    requires listed { IsListed request.now.action }
-    ensures stated { IfOk result (λ published. IsCarriedFrom S.content S.failures S.File.Input W.Output (Task.OnTable request.now) source.now (option_map (λ path. path.now) target.entry) system.old system.new writer.old writer.new published) }
-    ensures refused { (refusal : Refusal) → IsErrOf result (FileStop.Refused refusal) → (writer.new ≡ writer.old)
-        × MeetsFrom S.content S.failures S.File.Input (Task.OnTable request.now) source.now system.old system.new refusal }
-    ensures stopped { (stop : FileStop) → IsErrOf result stop → (target.entry ≡ None) ⊎ (writer.new ≡ writer.old) }
-{
-    match target {
-        Some(target) => match stream_into(alloc, request, source, target, system, files) {
-            Ok(published) => Ok(Some(published)),
-            Err(stop) => Err(stop),
-        },
-        None => match stream_from(alloc, request, source, system, writer) {
-            Ok(()) => Ok(None),
-            Err(stop) => Err(stop),
-        },
-    }
-}
-
-/// Carries a task out on the file at `source`, as `carry_out_from`. Values and dumps are written while the file is read.
-fn carry_out_file<'a, S: FileSystem, R: Files, W: Output, V: Watcher>(
+/// Carries a task out on the file at `source`, else on the reader; its answer goes to the file at `target`, whole or not at
+/// all, else to the writer. Values and dumps are written while the file is read. Where it is refused nothing was written.
+#[tactic(auto, using(crate::proofs::Endings::done_from))]
+fn carry_out_from<'a, S: FileSystem, D: Files, R: Input, W: Output, V: Watcher>(
     alloc: Global,
     task: &Task,
-    source: &'a str,
+    source: Option<&'a str>,
     target: Option<&'a str>,
     system: &mut S,
-    files: &'a R,
+    files: &'a D,
+    reader: &mut R,
     writer: &mut W,
     watcher: &mut V,
 ) -> Result<Option<Published<'a>>, FileStop<'a>>
 where
-    R::File: Lock,
-    ensures stated { IfOk result (λ published. IsCarriedFrom S.content S.failures S.File.Input W.Output task.now source.now (option_map (λ path. path.now) target.entry) system.old system.new writer.old writer.new published) }
-    ensures refused { (refusal : Refusal) → IsErrOf result (FileStop.Refused refusal) → (writer.new ≡ writer.old)
-        × MeetsFrom S.content S.failures S.File.Input task.now source.now system.old system.new refusal }
-    // where values are written while the file is read, a part of them may be written then
-    ensures failed { (failure : FileFailure) → IsErrOf result (FileStop.Failed failure) → IsListing task.now (Some source.now) target.entry ⊎ IsUnwritten W.Output writer.old writer.new }
-    ensures device { IsErrOf result FileStop.Device → IsListing task.now (Some source.now) target.entry ⊎ IsUnwritten W.Output writer.old writer.new }
-    ensures memory { IsErrOf result FileStop.Memory → IsListing task.now (Some source.now) target.entry ⊎ IsStartedFrom S.content S.failures S.File.Input W.Output task.now source.now system.old system.new writer.old writer.new }
+    D::File: Lock,
+    ensures stated { IfOk result (λ published. HasDoneTask S.content S.failures S.File.Input R.Input W.Output task.now source.entry target.entry system.old system.new reader.old reader.new writer.old writer.new published) }
+    ensures refused { (refusal : Refusal) → IsErrOf result (Stop.Refused refusal) → (writer.new ≡ writer.old)
+        × MeetsTask S.content S.failures S.File.Input R.Input task.now source.entry system.old system.new reader.old reader.new refusal }
+    ensures failed { (failure : FileFailure) → IsErrOf result (Stop.Failed failure) → IsListing task.now source.entry target.entry ⊎ IsUnwritten W.Output writer.old writer.new }
+    ensures device { IsErrOf result Stop.Device → IsListing task.now source.entry target.entry ⊎ IsUnwritten W.Output writer.old writer.new }
+    ensures memory { IsErrOf result Stop.Memory → IsListing task.now source.entry target.entry
+        ⊎ IsShortOfMemory S.content S.failures S.File.Input R.Input W.Output task.now source.entry system.old system.new reader.old reader.new writer.old writer.new }
 {
-    if let Task::OnTable(request) = task {
-        if is_listed(&request.action) {
-            return stream_to(alloc, request, source, target, system, files, writer);
-        }
+    let path = match source {
+        Some(path) if !lists_values(task) => path,
+        _ => return carry_out_to(
+            alloc, task, source, target, system, files, reader, writer, watcher,
+        ),
+    };
+    let mut file = match system.open(path) {
+        Ok(file) => file,
+        Err(fault) => return Err(failed(path, fault)),
+    };
+    match carry_out_to(
+        alloc, task, None, target, system, files, &mut file, writer, watcher,
+    ) {
+        Ok(published) => Ok(published),
+        Err(Stop::Device) => Err(device_stop(path, &file)),
+        Err(stop) => Err(stop),
     }
-    carry_out_from(alloc, task, source, target, system, files, writer, watcher)
 }
 
 /// What each line of a file has to be.
@@ -371,59 +301,7 @@ fn refused<'a, W: Output>(alloc: Global, refusal: Refusal, writer: &mut W) -> En
     }
 }
 
-/// Runs a task on the file at `source`.
-fn run_from<'a, S: FileSystem, D: Files, W: Output, V: Watcher>(
-    alloc: Global,
-    task: &Task,
-    source: &'a str,
-    target: Option<&'a str>,
-    system: &mut S,
-    files: &'a D,
-    writer: &mut W,
-    watcher: &mut V,
-) -> Ending<'a>
-where
-    D::File: Lock,
-    ensures { EndsTask result (λ published. IsCarriedFrom S.content S.failures S.File.Input W.Output task.now source.now (option_map (λ path. path.now) target.entry) system.old system.new writer.old writer.new published)
-        ((refusal : Refusal) × MeetsFrom S.content S.failures S.File.Input task.now source.now system.old system.new refusal × Gives W.Output writer.old writer.new (refusal_line refusal) 0)
-        (IsListing task.now (Some source.now) target.entry ⊎ IsUnwritten W.Output writer.old writer.new)
-        (IsListing task.now (Some source.now) target.entry ⊎ IsStartedFrom S.content S.failures S.File.Input W.Output task.now source.now system.old system.new writer.old writer.new) }
-{
-    match carry_out_file(alloc, task, source, target, system, files, writer, watcher) {
-        Ok(published) => Ending::Done(published),
-        Err(FileStop::Refused(refusal)) => refused(alloc, refusal, writer),
-        Err(FileStop::Failed(failure)) => Ending::Failed(failure),
-        Err(FileStop::Device) => Ending::Device,
-        Err(FileStop::Memory) => Ending::Memory,
-    }
-}
-
-/// Runs a task on the reader.
-fn run_to<'a, R: Input, D: Files, W: Output, V: Watcher>(
-    alloc: Global,
-    task: &Task,
-    target: Option<&'a str>,
-    files: &'a D,
-    reader: &mut R,
-    writer: &mut W,
-    watcher: &mut V,
-) -> Ending<'a>
-where
-    D::File: Lock,
-    ensures { EndsTask result (λ published. IsCarriedTo R.Input W.Output task.now (option_map (λ path. path.now) target.entry) reader.old reader.new writer.old writer.new published)
-        ((refusal : Refusal) × Meets R.Input task.now reader.old reader.new refusal × Gives W.Output writer.old writer.new (refusal_line refusal) 0)
-        (IsUnwritten W.Output writer.old writer.new) (IsStarted R.Input W.Output task.now reader.old reader.new writer.old writer.new) }
-{
-    match carry_out_to(alloc, task, reader, files, target, writer, watcher) {
-        Ok(published) => Ending::Done(published),
-        Err(FileStop::Refused(refusal)) => refused(alloc, refusal, writer),
-        Err(FileStop::Failed(failure)) => Ending::Failed(failure),
-        Err(FileStop::Device) => Ending::Device,
-        Err(FileStop::Memory) => Ending::Memory,
-    }
-}
-
-/// Runs a task on the file at `source`, else on the reader.
+/// Runs a task on the file at `source`, else on the reader; its answer goes to the file at `target`, else to the writer.
 fn run_task<'a, R: Input, W: Output, S: FileSystem, D: Files, V: Watcher>(
     alloc: Global,
     task: &Task,
@@ -442,15 +320,21 @@ where
         (IsListing task.now source.entry target.entry ⊎ IsUnwritten W.Output writer.old writer.new)
         (IsListing task.now source.entry target.entry ⊎ IsShortOfMemory S.content S.failures S.File.Input R.Input W.Output task.now source.entry system.old system.new reader.old reader.new writer.old writer.new) }
 {
-    match source {
-        Some(source) => run_from(alloc, task, source, target, system, files, writer, watcher),
-        None => run_to(alloc, task, target, files, reader, writer, watcher),
+    match carry_out_from(
+        alloc, task, source, target, system, files, reader, writer, watcher,
+    ) {
+        Ok(published) => Ending::Done(published),
+        Err(Stop::Refused(refusal)) => refused(alloc, refusal, writer),
+        Err(Stop::Failed(failure)) => Ending::Failed(failure),
+        Err(Stop::Device) => Ending::Device,
+        Err(Stop::Memory) => Ending::Memory,
     }
 }
 
-/// How a look-up ends where its file fails.
-fn failed_ending(path: &str, fault: FileFault) -> Ending<'_>
-    ensures { EndsTask result (λ published. ⊥) ⊥ (fault ≡ FileFault.Memory → ⊥) (fault ≡ FileFault.Memory) }
+/// How a look-up ends where its file fails, or a check where another file fails before its first one.
+pub(crate) fn failed_ending(path: &str, fault: FileFault) -> Ending<'_>
+    ensures task { EndsTask result (λ published. ⊥) ⊥ (fault ≡ FileFault.Memory → ⊥) (fault ≡ FileFault.Memory) }
+    ensures check { EndsCheck result (λ report. ⊥) (λ given. ⊥) ⊥ (Unit {0}) }
 {
     match fault {
         FileFault::Memory => Ending::Memory,
@@ -480,18 +364,10 @@ fn run_look_up<'a, S: FileSystem, W: Output>(
             Ok(()) => Ending::Done(None),
             Err(_) => Ending::Device,
         },
-        Err(LookUpStop::Refused(refusal)) => refused(alloc, refusal, writer),
-        Err(LookUpStop::Failed(fault)) => failed_ending(source, fault),
-    }
-}
-
-/// How a check ends before its first file where another file fails.
-pub(crate) fn unchecked(path: &str, fault: FileFault) -> Ending<'_>
-    ensures { EndsCheck result (λ report. ⊥) (λ given. ⊥) ⊥ (Unit {0}) }
-{
-    match fault {
-        FileFault::Memory => Ending::Memory,
-        fault => Ending::Failed(FileFailure { path, fault }),
+        Err(Stop::Refused(refusal)) => refused(alloc, refusal, writer),
+        Err(Stop::Failed(fault)) => failed_ending(source, fault),
+        Err(Stop::Device) => Ending::Device,
+        Err(Stop::Memory) => Ending::Memory,
     }
 }
 
@@ -502,7 +378,7 @@ pub(crate) fn unread_list<'a>(failure: ListFailure<'a>, due: LineKind) -> Ending
     let ListFailure { path, fault } = failure;
     match fault {
         ListFault::Line(line) => Ending::BadLine { path, line, due },
-        ListFault::File(fault) => unchecked(path, fault),
+        ListFault::File(fault) => failed_ending(path, fault),
     }
 }
 
@@ -531,44 +407,9 @@ fn list_into<'a, R: Files>(mut draft: Draft<'a, R>, text: &[u8]) -> Result<Publi
     draft.seal(None)?.publish()
 }
 
-/// Checks files, and writes the list of the digests of those that pass to the file at `target`: at the end, and whole.
+/// Checks files by these options, sums and records, and writes the list of the digests of those that pass to the file at
+/// `target` if there is one: at the end, and whole.
 #[tactic(auto, using(crate::proofs::Endings::checked_without, crate::proofs::Endings::manifest_is, crate::proofs::Endings::unread_ending))]
-fn check_into<'a, S: FileSystem, D: Files + Clock, W: Output>(
-    alloc: Global,
-    system: &mut S,
-    machine: &'a D,
-    options: CheckOptions<'_>,
-    target: &'a str,
-    paths: &[&str],
-    writer: &mut W,
-) -> Ending<'a>
-where
-    D::File: Lock,
-    ensures { EndsCheck result (λ report. IsFoundReport S.content S.failures S.File.Input W.Output options.entry (map (λ path. path.now) paths.now) system.old system.new writer.old writer.new report)
-        (λ given. given ≡ Some target.now) (HasFailed (W.failures writer.old) (W.failures writer.new) (W.interrupted writer.new)) (writer.new ≡ writer.old) }
-{
-    let draft = match Draft::create(alloc, machine, target) {
-        Ok(draft) => draft,
-        Err(fault) => return unchecked(target, fault),
-    };
-    match check_found(alloc, system, machine, options, paths, writer) {
-        Ok(report) => {
-            let written = list_into(draft, &report.manifest);
-            Ending::Listed {
-                report,
-                target,
-                written,
-            }
-        }
-        Err(stop) => {
-            draft.discard();
-            Ending::Checked(Err(stop))
-        }
-    }
-}
-
-/// Checks files by these options, sums and records.
-#[tactic(auto, using(crate::proofs::Endings::checked_without))]
 fn check_by<'a, S: FileSystem, D: Files + Clock, W: Output>(
     alloc: Global,
     system: &mut S,
@@ -583,9 +424,27 @@ where
     ensures { EndsCheck result (λ report. IsFoundReport S.content S.failures S.File.Input W.Output options.entry (map (λ path. path.now) paths.now) system.old system.new writer.old writer.new report)
         (λ given. given ≡ option_map (λ path. path.now) target.entry) (HasFailed (W.failures writer.old) (W.failures writer.new) (W.interrupted writer.new)) (writer.new ≡ writer.old) }
 {
-    match target {
-        Some(target) => check_into(alloc, system, machine, options, target, paths, writer),
-        None => Ending::Checked(check_found(alloc, system, machine, options, paths, writer)),
+    let target = match target {
+        Some(target) => target,
+        None => return Ending::Checked(check_found(alloc, system, machine, options, paths, writer)),
+    };
+    let draft = match Draft::create(alloc, machine, target) {
+        Ok(draft) => draft,
+        Err(fault) => return failed_ending(target, fault),
+    };
+    match check_found(alloc, system, machine, options, paths, writer) {
+        Ok(report) => {
+            let written = list_into(draft, &report.manifest);
+            Ending::Listed {
+                report,
+                target,
+                written,
+            }
+        }
+        Err(stop) => {
+            draft.discard();
+            Ending::Checked(Err(stop))
+        }
     }
 }
 

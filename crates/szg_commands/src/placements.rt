@@ -1,31 +1,33 @@
 //! The lines for placements: the index of one, the class or number that a table has for it, and the placement of an
 //! index.
 
-ghost use Rattle.std.specs.Prelude.{◌≡◌, Some, IfOk, IsErrOf, string_bytes};
-ghost use Rattle.szg_commands.specs.Answers.{IsAnswer, IsClassLine, IsNumberLine, IsOutcomeLine, IsSpotLine, class_line, mover_word, part_letter, placement_line, spot_line};
-ghost use Rattle.szg_commands.specs.Refusals.{spot_refusal, number_refusal, outcome_refusal, placement_refusal_at};
+ghost use Rattle.std.specs.Prelude.{◌≡◌, Some, IfOk, IsErrOf, IsNone, string_bytes};
+ghost use Rattle.szg_place.specs.Spots.{place_fault, spot_of};
+ghost use Rattle.szg_place.specs.Tables.{numbering_in};
+ghost use Rattle.szg_commands.specs.Answers.{IsAnswer, IsNumberLine, IsOutcomeLine, class_line, mover_word, part_letter, placement_line, spot_line};
+ghost use Rattle.szg_commands.specs.Refusals.{number_refusal, outcome_refusal, place_refusal, placement_refusal_at};
 ghost use Rattle.szg_commands.specs.declared.refusal.Refusal.{Refusal};
 
 use crate::lookups::check_index;
 use crate::men::add_men;
 use crate::refusal::{Refusal, Stop};
-use crate::request::{Action, Class, Request};
+use crate::request::{Action, AskedClass, Request};
 use std::alloc::{AllocError, Global};
-use szg_file::Table;
-use szg_place::{ProbeFault, Spot, index_of, placement_of, probe_dtz, probe_wdl};
-use szg_values::{Color, Kind, Placement};
+use szg_file::{Table, TableIndex};
+use szg_place::{ProbeFault, Spot, locate, placement_of, probe_dtz, probe_wdl};
+use szg_values::{Color, Kind, PlacedMen, Placement};
 
 /// Returns the line of a placement's part, side and index.
-pub(crate) fn spot_answer(
+pub(crate) fn index_line<F>(
     alloc: Global,
-    table: &Table,
+    index: &TableIndex,
     placement: &Placement,
-) -> Result<String, Stop>
-    ensures stated { IfOk result (λ line. IsSpotLine table.now.contents placement.now (string_bytes line)) }
-    ensures refused { (refusal : Refusal) → IsErrOf result (Stop.Refused refusal) → spot_refusal table.now.contents placement.now ≡ Some refusal }
+) -> Result<String, Stop<F>>
+    ensures stated { IfOk result (λ line. IsNone (place_fault (numbering_in index.now) placement.now) × (string_bytes line ≡ spot_line (spot_of (numbering_in index.now) placement.now))) }
+    ensures refused { (refusal : Refusal) → IsErrOf result (Stop.Refused refusal) → place_refusal (place_fault (numbering_in index.now) placement.now) ≡ Some refusal }
     ensures device { IsErrOf result Stop.Device → ⊥ }
 {
-    match index_of(table, placement) {
+    match locate(index, &PlacedMen::of(placement)) {
         Ok(spot) => Ok(spot_line(alloc, spot)?),
         Err(fault) => Err(Stop::Refused(Refusal::Place(fault))),
     }
@@ -56,38 +58,18 @@ pub(crate) fn outcome_answer(
     alloc: Global,
     table: &Table,
     placement: &Placement,
-    class: Class,
+    class: AskedClass,
 ) -> Result<String, Stop>
     ensures stated { IfOk result (λ line. IsOutcomeLine table.now.contents.kind table.now.contents placement.now class (string_bytes line)) }
     ensures refused { (refusal : Refusal) → IsErrOf result (Stop.Refused refusal) → outcome_refusal table.now.contents.kind table.now.contents placement.now class ≡ Some refusal }
     ensures device { IsErrOf result Stop.Device → ⊥ }
 {
     match table.kind() {
-        Kind::Wdl => class_answer(alloc, table, placement),
+        Kind::Wdl => match probe_wdl(table, placement) {
+            Ok(class) => Ok(class_line(alloc, class)?),
+            Err(fault) => Err(Stop::Refused(Refusal::Place(fault))),
+        },
         Kind::Dtz => number_answer(alloc, table, placement, class),
-    }
-}
-
-/// Returns the line of a placement's class in a WDL table.
-fn class_answer(alloc: Global, table: &Table, placement: &Placement) -> Result<String, Stop>
-    requires { table.now.contents.kind ≡ Kind.Wdl }
-    ensures stated { IfOk result (λ line. IsClassLine table.now.contents placement.now (string_bytes line)) }
-    ensures refused { (refusal : Refusal) → IsErrOf result (Stop.Refused refusal) → spot_refusal table.now.contents placement.now ≡ Some refusal }
-    ensures device { IsErrOf result Stop.Device → ⊥ }
-{
-    match probe_wdl(table, placement) {
-        Ok(class) => Ok(class_line(alloc, class)?),
-        Err(fault) => Err(Stop::Refused(Refusal::Place(fault))),
-    }
-}
-
-/// A class's line.
-pub(crate) fn class_line(alloc: Global, class: Option<i8>) -> Result<String, AllocError>
-    ensures { IfOk result (λ line. string_bytes line ≡ class_line class) }
-{
-    match class {
-        Some(class) => format!(in alloc; "{class}\n"),
-        None => format!(in alloc; "none\n"),
     }
 }
 
@@ -96,7 +78,7 @@ fn number_answer(
     alloc: Global,
     table: &Table,
     placement: &Placement,
-    class: Class,
+    class: AskedClass,
 ) -> Result<String, Stop>
     requires { table.now.contents.kind ≡ Kind.Dtz }
     ensures stated { IfOk result (λ line. IsNumberLine table.now.contents placement.now class (string_bytes line)) }
@@ -107,6 +89,16 @@ fn number_answer(
         Ok(number) => Ok(format!(in alloc; "{number}\n")?),
         Err(ProbeFault::Place(fault)) => Err(Stop::Refused(Refusal::Place(fault))),
         Err(ProbeFault::Map(fault)) => Err(Stop::Refused(Refusal::Map(fault))),
+    }
+}
+
+/// A class's line.
+pub(crate) fn class_line(alloc: Global, class: Option<i8>) -> Result<String, AllocError>
+    ensures { IfOk result (λ line. string_bytes line ≡ class_line class) }
+{
+    match class {
+        Some(class) => format!(in alloc; "{class}\n"),
+        None => format!(in alloc; "none\n"),
     }
 }
 

@@ -1,4 +1,5 @@
 use std::alloc::{AllocError, AllocFailed};
+use std::convert::Infallible;
 use szg_build::{BuildFault, DumpFault};
 use szg_file::{MapFault, Reason};
 use szg_place::PlaceFault;
@@ -31,46 +32,48 @@ pub enum Refusal {
     Map(MapFault),
 }
 
-/// Why a command wasn't carried out.
-#[derive(Drop)]
-pub enum Stop {
+/// Why a command wasn't carried out; `F` says which file failed, and why.
+#[derive(Clone, Copy)]
+pub enum Stop<F = Infallible> {
     /// It is refused.
     Refused(Refusal),
+    /// A file failed.
+    Failed(F),
     /// The reader or the writer failed.
     Device,
     /// A growth was refused.
     Memory,
 }
 
-impl From<Refusal> for Stop {
+impl<F> From<Refusal> for Stop<F> {
     ghost use Rattle.std.specs.Prelude.{◌≡◌};
     ghost use Rattle.szg_commands.specs.declared.refusal.Stop.TheVariants.{Refused};
 
     ghost from_gives = { λ refusal stop. stop ≡ Refused refusal };
 
-    fn from(refusal: Refusal) -> Stop {
+    fn from(refusal: Refusal) -> Stop<F> {
         Stop::Refused(refusal)
     }
 }
 
-impl From<AllocError> for Stop {
+impl<F> From<AllocError> for Stop<F> {
     ghost use Rattle.std.specs.Prelude.{◌≡◌};
     ghost use Rattle.szg_commands.specs.declared.refusal.Stop.TheVariants.{Memory};
 
     ghost from_gives = { λ _ stop. stop ≡ Memory };
 
-    fn from(_failed: AllocError) -> Stop {
+    fn from(_failed: AllocError) -> Stop<F> {
         Stop::Memory
     }
 }
 
-impl<T: Drop> From<AllocFailed<T>> for Stop {
+impl<F, T: Drop> From<AllocFailed<T>> for Stop<F> {
     ghost use Rattle.std.specs.Prelude.{◌≡◌};
     ghost use Rattle.szg_commands.specs.declared.refusal.Stop.TheVariants.{Memory};
 
     ghost from_gives = { λ _ stop. stop ≡ Memory };
 
-    fn from(_failed: AllocFailed<T>) -> Stop {
+    fn from(_failed: AllocFailed<T>) -> Stop<F> {
         Stop::Memory
     }
 }

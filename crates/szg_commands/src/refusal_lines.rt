@@ -1,6 +1,6 @@
 //! The line of a refusal.
 ghost use Rattle.std.specs.Prelude.{◌≡◌, IfOk, string_bytes};
-ghost use Rattle.szg_commands.specs.RefusalLines.{block_line, build_word, dump_word, map_word, numbered_line, place_word, placement_word, refusal_line, worded_line};
+ghost use Rattle.szg_commands.specs.RefusalLines.{block_line, numbered_line, refusal_line, refusal_word, worded_line};
 
 use crate::refusal::Refusal;
 use std::alloc::{AllocError, Global};
@@ -14,18 +14,19 @@ use szg_values::PlacementFault;
 pub fn refusal_line(alloc: Global, refusal: Refusal) -> Result<String, AllocError>
     ensures { IfOk result (λ line. string_bytes line ≡ refusal_line refusal) }
 {
+    let word = refusal_word(refusal);
     match refusal {
-        Refusal::Name(fault) => worded_line(alloc, "name", name_word(fault)),
+        Refusal::Name(_) => worded_line(alloc, "name", word),
         Refusal::Man => String::from_str(alloc, "refused man\n"),
-        Refusal::Placement(fault) => worded_line(alloc, "placement", placement_word(fault)),
-        Refusal::At(place, reason) => numbered_line(alloc, "at", place, reason_word(reason)),
-        Refusal::Line(line, fault) => numbered_line(alloc, "line", line, dump_word(fault)),
-        Refusal::Build(fault) => worded_line(alloc, "build", build_word(fault)),
+        Refusal::Placement(_) => worded_line(alloc, "placement", word),
+        Refusal::At(place, _) => numbered_line(alloc, "at", place, word),
+        Refusal::Line(line, _) => numbered_line(alloc, "line", line, word),
+        Refusal::Build(_) => worded_line(alloc, "build", word),
         Refusal::Part => String::from_str(alloc, "refused part\n"),
         Refusal::Index => String::from_str(alloc, "refused index\n"),
         Refusal::Block(number, offset) => block_line(alloc, number, offset),
-        Refusal::Place(fault) => worded_line(alloc, "place", place_word(fault)),
-        Refusal::Map(fault) => worded_line(alloc, "map", map_word(fault)),
+        Refusal::Place(_) => worded_line(alloc, "place", word),
+        Refusal::Map(_) => worded_line(alloc, "map", word),
     }
 }
 
@@ -50,67 +51,38 @@ fn block_line(alloc: Global, number: u32, offset: u64) -> Result<String, AllocEr
     format!(in alloc; "refused block {number} at {offset}\n")
 }
 
-/// Why men are no placement.
-fn placement_word(fault: PlacementFault) -> &'static str
-    ensures { result.now ≡ placement_word fault }
+/// Why something is refused, in a word; none where the line says all.
+fn refusal_word(refusal: Refusal) -> &'static str
+    ensures { result.now ≡ refusal_word refusal }
 {
-    match fault {
-        PlacementFault::Men => "Men",
-        PlacementFault::SameSquare => "SameSquare",
-        PlacementFault::PawnRank => "PawnRank",
-    }
-}
-
-/// Why a line is none of a dump.
-fn dump_word(fault: DumpFault) -> &'static str
-    ensures { result.now ≡ dump_word fault }
-{
-    match fault {
-        DumpFault::Version => "Version",
-        DumpFault::Field => "Field",
-        DumpFault::Number => "Number",
-        DumpFault::Hex => "Hex",
-        DumpFault::Name => "Name",
-        DumpFault::Ended => "Ended",
-        DumpFault::Run => "Run",
-    }
-}
-
-/// Why no table can be built.
-fn build_word(fault: BuildFault) -> &'static str
-    ensures { result.now ≡ build_word fault }
-{
-    match fault {
-        BuildFault::Order => "Order",
-        BuildFault::Bits => "Bits",
-        BuildFault::Rounds => "Rounds",
-        BuildFault::Count => "Count",
-        BuildFault::Length(_) => "Length",
-        BuildFault::Value(_) => "Value",
-        BuildFault::TooManyValues(_) => "TooManyValues",
-        BuildFault::Map => "Map",
-        BuildFault::Memory => "Memory",
-    }
-}
-
-/// Why a table has no index for a placement.
-fn place_word(fault: PlaceFault) -> &'static str
-    ensures { result.now ≡ place_word fault }
-{
-    match fault {
-        PlaceFault::OtherMaterial => "OtherMaterial",
-        PlaceFault::Irregular => "Irregular",
-        PlaceFault::KingsTouch => "KingsTouch",
-        PlaceFault::WrongSide => "WrongSide",
-    }
-}
-
-/// Why a value has no number.
-fn map_word(fault: MapFault) -> &'static str
-    ensures { result.now ≡ map_word fault }
-{
-    match fault {
-        MapFault::Draw => "Draw",
-        MapFault::OutsideMap => "OutsideMap",
+    match refusal {
+        Refusal::Name(fault) => name_word(fault),
+        Refusal::At(_, reason) => reason_word(reason),
+        Refusal::Placement(PlacementFault::Men) => "Men",
+        Refusal::Placement(PlacementFault::SameSquare) => "SameSquare",
+        Refusal::Placement(PlacementFault::PawnRank) => "PawnRank",
+        Refusal::Line(_, DumpFault::Version) => "Version",
+        Refusal::Line(_, DumpFault::Field) => "Field",
+        Refusal::Line(_, DumpFault::Number) => "Number",
+        Refusal::Line(_, DumpFault::Hex) => "Hex",
+        Refusal::Line(_, DumpFault::Name) => "Name",
+        Refusal::Line(_, DumpFault::Ended) => "Ended",
+        Refusal::Line(_, DumpFault::Run) => "Run",
+        Refusal::Build(BuildFault::Order) => "Order",
+        Refusal::Build(BuildFault::Bits) => "Bits",
+        Refusal::Build(BuildFault::Rounds) => "Rounds",
+        Refusal::Build(BuildFault::Count) => "Count",
+        Refusal::Build(BuildFault::Length(_)) => "Length",
+        Refusal::Build(BuildFault::Value(_)) => "Value",
+        Refusal::Build(BuildFault::TooManyValues(_)) => "TooManyValues",
+        Refusal::Build(BuildFault::Map) => "Map",
+        Refusal::Build(BuildFault::Memory) => "Memory",
+        Refusal::Place(PlaceFault::OtherMaterial) => "OtherMaterial",
+        Refusal::Place(PlaceFault::Irregular) => "Irregular",
+        Refusal::Place(PlaceFault::KingsTouch) => "KingsTouch",
+        Refusal::Place(PlaceFault::WrongSide) => "WrongSide",
+        Refusal::Map(MapFault::Draw) => "Draw",
+        Refusal::Map(MapFault::OutsideMap) => "OutsideMap",
+        Refusal::Man | Refusal::Part | Refusal::Index | Refusal::Block(..) => "",
     }
 }

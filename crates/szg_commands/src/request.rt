@@ -2,7 +2,7 @@ ghost use Rattle.std.specs.Prelude.{◌≡◌, ◌⊎◌, true, false, IfErr, If
 ghost use Rattle.clap.specs.Matches.{first_value, found_of};
 ghost use Rattle.clap.specs.Values.{kind_of as kind_of_error};
 ghost use Rattle.szg_commands.specs.Answers.{number_of_class, number_of_form};
-ghost use Rattle.szg_commands.specs.Requested.{IsActionOf, IsActionOnMen, IsPackingIn, IsRequestIn, IsRequestOn, IsTaskIn, action_of_men, parsed_action, parsed_look_up, names_men, words_of};
+ghost use Rattle.szg_commands.specs.Requested.{IsActionOf, IsActionOnMen, IsPackingIn, IsTaskIn, action_of_men, parsed_action, parsed_look_up, names_men};
 ghost use Rattle.szg_commands.specs.Chosen.{AsksFor, AsksForNone, line_of, has_numbers, has_sizes, has_table_numbers, has_unused, is_given as is_typed};
 ghost use Rattle.szg_commands.specs.Words.{is_word, parsed_class, parsed_form, parsed_kind, parsed_mover, number_from, parsed_part, parsed_side, word_of};
 
@@ -17,11 +17,12 @@ use clap::error::ErrorKind;
 use clap::parser::ValueSource;
 use clap::{ArgMatches, Error};
 use std::alloc::{AllocError, Global};
+use szg_build::{Choice, Packing};
 use szg_values::{Color, Kind, Placement};
 
 /// The class of a placement for the side to move.
 #[derive(Clone, Copy)]
-pub enum Class {
+pub enum AskedClass {
     Win,
     Cursed,
     Draw,
@@ -29,39 +30,39 @@ pub enum Class {
     Loss,
 }
 
-impl Class {
+impl AskedClass {
     /// The class's number: 2 for a win, 1 for a cursed win, 0, -1 and -2.
     pub fn number(self) -> i8
         ensures { result ≡ number_of_class self }
     {
         match self {
-            Class::Win => 2,
-            Class::Cursed => 1,
-            Class::Draw => 0,
-            Class::Blessed => -1,
-            Class::Loss => -2,
+            AskedClass::Win => 2,
+            AskedClass::Cursed => 1,
+            AskedClass::Draw => 0,
+            AskedClass::Blessed => -1,
+            AskedClass::Loss => -2,
         }
     }
 }
 
 /// The form of a dump.
 #[derive(Clone, Copy)]
-pub enum Form {
+pub enum DumpForm {
     /// A line for each value.
     Values,
     /// A line for each maximal run of equal values.
     Runs,
 }
 
-impl Form {
+impl DumpForm {
     /// The form's number in a dump's first line: 1 or 2.
     pub fn number(self) -> u8
         ensures number { result ≡ number_of_form self }
         ensures known { (result ≡ 1) ⊎ (result ≡ 2) }
     {
         match self {
-            Form::Values => 1,
-            Form::Runs => 2,
+            DumpForm::Values => 1,
+            DumpForm::Runs => 2,
         }
     }
 }
@@ -77,35 +78,15 @@ pub enum Action {
     Values,
     Copy,
     /// The table as text.
-    Dump(Form),
+    Dump(DumpForm),
     /// The index of a placement.
     Index(Placement),
     /// The value of a placement, in a DTZ table in a class.
-    Probe(Placement, Class),
+    Probe(Placement, AskedClass),
     /// The placement of an index.
     Placement(u64),
     /// The words are no placement's.
     Unplaced(Refusal),
-}
-
-/// The numbers of a fixed plan.
-#[derive(Clone, Copy)]
-pub struct Sizes {
-    /// 5 to 10.
-    pub block_bits: u8,
-    /// 1 to 16.
-    pub span_bits: u8,
-    /// At most 4,000.
-    pub rounds: u32,
-}
-
-/// How a table is to be packed.
-#[derive(Clone, Copy)]
-pub enum Packing {
-    /// By these numbers.
-    Fixed(Sizes),
-    /// As small as the builder can make it.
-    Small,
 }
 
 /// What a command line asks for.
@@ -114,7 +95,7 @@ pub enum Task<'a> {
     /// Something of a table.
     OnTable(Request<'a>),
     /// A table's file, built of a dump.
-    Build(Packing),
+    Build(Choice),
 }
 
 /// A command with its words: the table's name and kind, and a part and side where one is asked for.
@@ -150,11 +131,11 @@ pub fn parse<'a, F: Finder>(
         return Err(missing_command(alloc, form)?);
     };
     if let Some(argument) = unused_by_plan(chosen) {
-        return Err(conflict_error(alloc, command, form, argument)?);
+        return Err(words_error(alloc, command, form, WordsFault::Unused(argument))?);
     }
     match task_in(command, chosen) {
         Ok(task) => Ok(task),
-        Err(fault) => Err(number_error(alloc, command, form, fault)?),
+        Err(fault) => Err(words_error(alloc, command, form, WordsFault::Number(fault))?),
     }
 }
 
@@ -170,30 +151,76 @@ pub(crate) fn missing_command(alloc: Global, form: CommandForm) -> Result<Error,
     program(alloc, form)?.error(ErrorKind::MissingSubcommand, "a command is missing")
 }
 
-/// Creates the error of a word that is none of its argument's numbers.
-pub(crate) fn number_error(
+/// Why the words of a command ask for nothing.
+#[derive(Clone, Copy)]
+pub(crate) enum WordsFault<'a> {
+    /// A word is none of its argument's numbers.
+    Number(NumberFault<'a>),
+    /// A small plan doesn't take this number.
+    Unused(NumberArgument),
+    /// The file's ending names no kind, and none is given.
+    Kind,
+    /// A word is no shard.
+    Shard(&'a str),
+    /// A growth was refused.
+    Memory,
+}
+
+impl<'a> From<NumberFault<'a>> for WordsFault<'a> {
+    ghost use Rattle.std.specs.Prelude.{◌≡◌};
+    ghost use Rattle.szg_commands.specs.declared.request.WordsFault.TheVariants.{Number};
+
+    ghost from_gives = { λ fault stated. stated ≡ Number fault };
+
+    fn from(fault: NumberFault<'a>) -> WordsFault<'a> {
+        WordsFault::Number(fault)
+    }
+}
+
+/// Creates the error of a command's words that ask for nothing.
+pub(crate) fn words_error(
     alloc: Global,
     command: &str,
     form: CommandForm,
-    fault: NumberFault<'_>,
-) -> Result<Error, AllocError> {
-    let NumberArgument {
-        shown,
-        least,
-        greatest,
-        ..
-    } = fault.argument;
-    let word = fault.word;
-    let message = format!(in alloc;
-        "invalid value '{word}' for '{shown}': not a number from {least} to {greatest}"
-    )?;
-    usage_error(
-        alloc,
-        command,
-        form,
-        ErrorKind::ValueValidation,
-        message.as_str(),
-    )
+    fault: WordsFault<'_>,
+) -> Result<Error, AllocError>
+    ensures { fault.entry ≡ WordsFault.Memory → IfOk result (λ error. ⊥) }
+{
+    let (kind, message) = match fault {
+        WordsFault::Number(NumberFault { argument, word }) => {
+            let NumberArgument {
+                shown,
+                least,
+                greatest,
+                ..
+            } = argument;
+            let message = format!(in alloc;
+                "invalid value '{word}' for '{shown}': not a number from {least} to {greatest}"
+            )?;
+            (ErrorKind::ValueValidation, message)
+        }
+        WordsFault::Unused(NumberArgument { shown, .. }) => {
+            let message = format!(in alloc;
+                "the argument '--plan small' cannot be used with '{shown}'"
+            )?;
+            (ErrorKind::ArgumentConflict, message)
+        }
+        WordsFault::Kind => {
+            let message = String::from_str(
+                alloc,
+                "the file's ending is neither .rtbw nor .rtbz: give its kind by '--kind <KIND>'",
+            )?;
+            (ErrorKind::MissingRequiredArgument, message)
+        }
+        WordsFault::Shard(word) => {
+            let message = format!(in alloc;
+                "invalid value '{word}' for '--shard <K/N>': not a number K from 1 to N, a slash and N"
+            )?;
+            (ErrorKind::ValueValidation, message)
+        }
+        WordsFault::Memory => return Err(AllocError),
+    };
+    usage_error(alloc, command, form, kind, message.as_str())
 }
 
 /// Whether the words ask for a small plan.
@@ -242,24 +269,6 @@ pub(crate) fn unused_by_plan(chosen: &ArgMatches<'_>) -> Option<NumberArgument>
     None
 }
 
-/// Creates the error of a number that a small plan does not take.
-pub(crate) fn conflict_error(
-    alloc: Global,
-    command: &str,
-    form: CommandForm,
-    argument: NumberArgument,
-) -> Result<Error, AllocError> {
-    let shown = argument.shown;
-    let message = format!(in alloc; "the argument '--plan small' cannot be used with '{shown}'")?;
-    usage_error(
-        alloc,
-        command,
-        form,
-        ErrorKind::ArgumentConflict,
-        message.as_str(),
-    )
-}
-
 /// An error with the usage of a command.
 pub(crate) fn usage_error(
     alloc: Global,
@@ -281,45 +290,34 @@ fn task_in<'a>(command: &str, chosen: &ArgMatches<'a>) -> Result<Task<'a>, Numbe
     if command == "build" {
         return Ok(Task::Build(packing_in(chosen)?));
     }
-    Ok(Task::OnTable(request_in(command, chosen)?))
+    let name = chosen.get_str("NAME").unwrap_or("");
+    let kind = kind_of(chosen.get_str("KIND"));
+    Ok(Task::OnTable(request_on(command, chosen, name, kind)?))
 }
 
 /// Returns the packing that the words ask for.
-pub(crate) fn packing_in<'a>(chosen: &ArgMatches<'a>) -> Result<Packing, NumberFault<'a>>
+pub(crate) fn packing_in<'a>(chosen: &ArgMatches<'a>) -> Result<Choice, NumberFault<'a>>
     ensures packing { IfOk result (IsPackingIn (found_of chosen.now)) }
     ensures none { IfErr result (λ fault. (is_word (first_value (found_of chosen.now) (codes "plan")) (codes "small") ≡ false) × (has_sizes (found_of chosen.now) ≡ false)) }
 {
     if is_small(chosen) {
-        return Ok(Packing::Small);
+        return Ok(Choice::Small);
     }
-    Ok(Packing::Fixed(sizes_in(chosen)?))
+    Ok(Choice::Fixed(sizes_in(chosen)?))
 }
 
 /// Parses the numbers of a fixed plan.
-pub fn sizes_in<'a>(chosen: &ArgMatches<'a>) -> Result<Sizes, NumberFault<'a>>
+pub fn sizes_in<'a>(chosen: &ArgMatches<'a>) -> Result<Packing, NumberFault<'a>>
     ensures block { IfOk result (λ sizes. number_from 5 10 (word_of (found_of chosen.now) (codes "block")) ≡ Some sizes.block_bits) }
     ensures span { IfOk result (λ sizes. number_from 1 16 (word_of (found_of chosen.now) (codes "span")) ≡ Some sizes.span_bits) }
     ensures rounds { IfOk result (λ sizes. number_from 0 4000 (word_of (found_of chosen.now) (codes "rounds")) ≡ Some sizes.rounds) }
     ensures none { IfErr result (λ fault. has_sizes (found_of chosen.now) ≡ false) }
 {
-    Ok(Sizes {
+    Ok(Packing {
         block_bits: number_of(chosen, BLOCK)? as u8,
         span_bits: number_of(chosen, SPAN)? as u8,
         rounds: number_of(chosen, ROUNDS)? as u32,
     })
-}
-
-/// What is asked of a table.
-fn request_in<'a>(command: &str, chosen: &ArgMatches<'a>) -> Result<Request<'a>, NumberFault<'a>>
-    ensures name { IfOk result (λ request. request.name.now ≡ word_of (found_of chosen.now) (codes "NAME")) }
-    ensures kind { IfOk result (λ request. request.kind ≡ parsed_kind (first_value (found_of chosen.now) (codes "KIND"))) }
-    ensures part { IfOk result (λ request. request.part ≡ parsed_part (first_value (found_of chosen.now) (codes "part"))) }
-    ensures side { IfOk result (λ request. parsed_side command.now (found_of chosen.now) ≡ Some request.side) }
-    ensures action { IfOk result (λ request. IsActionOf command.now (found_of chosen.now) request.action) }
-    ensures none { IfErr result (λ fault. has_table_numbers command.now (found_of chosen.now) ≡ false) }
-{
-    let name = chosen.get_str("NAME").unwrap_or("");
-    request_on(command, chosen, name, kind_of(chosen.get_str("KIND")))
 }
 
 /// What is asked of a table of this name and kind.
@@ -415,7 +413,7 @@ fn action_on_men(command: &str, chosen: &ArgMatches<'_>) -> Action
 }
 
 /// What is asked of a placement, or why there is none.
-fn action_of_men(is_index: bool, placement: Result<Placement, Refusal>, class: Class) -> Action
+fn action_of_men(is_index: bool, placement: Result<Placement, Refusal>, class: AskedClass) -> Action
     ensures { result ≡ action_of_men is_index placement class }
 {
     match placement {
@@ -436,13 +434,13 @@ pub fn kind_of(word: Option<&str>) -> Kind
 }
 
 /// The form of a number.
-fn form_of(number: u64) -> Form
+fn form_of(number: u64) -> DumpForm
     ensures { result ≡ parsed_form number }
 {
     if number == 1 {
-        Form::Values
+        DumpForm::Values
     } else {
-        Form::Runs
+        DumpForm::Runs
     }
 }
 
@@ -457,15 +455,15 @@ fn mover_of(word: Option<&str>) -> Color
 }
 
 /// The class of a word; a win where there is none.
-fn class_of(word: Option<&str>) -> Class
+fn class_of(word: Option<&str>) -> AskedClass
     ensures { result ≡ parsed_class (option_map (λ text. text.now) word.entry) }
 {
     match word {
-        Some("cursed") => Class::Cursed,
-        Some("draw") => Class::Draw,
-        Some("blessed") => Class::Blessed,
-        Some("loss") => Class::Loss,
-        _ => Class::Win,
+        Some("cursed") => AskedClass::Cursed,
+        Some("draw") => AskedClass::Draw,
+        Some("blessed") => AskedClass::Blessed,
+        Some("loss") => AskedClass::Loss,
+        _ => AskedClass::Win,
     }
 }
 

@@ -48,16 +48,9 @@ pub(crate) fn is_fen(word: &str) -> bool {
 fn form_in<'a>(words: &'a [&'a str]) -> (AnswerForm, &'a [&'a str]) {
     let option: [&str; 2] = ["--format", "json"];
     let joined: [&str; 1] = ["--format=json"];
-    if let Some(rest) = words.strip_prefix(&option) {
-        return (AnswerForm::Json, rest);
-    }
-    if let Some(rest) = words.strip_prefix(&joined) {
-        return (AnswerForm::Json, rest);
-    }
-    if let Some(rest) = words.strip_suffix(&option) {
-        return (AnswerForm::Json, rest);
-    }
-    match words.strip_suffix(&joined) {
+    let before = words.strip_prefix(&option).or(words.strip_prefix(&joined));
+    let after = words.strip_suffix(&option).or(words.strip_suffix(&joined));
+    match before.or(after) {
         Some(rest) => (AnswerForm::Json, rest),
         None => (AnswerForm::Text, words),
     }

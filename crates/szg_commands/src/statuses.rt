@@ -1,16 +1,15 @@
 //! The statuses with which the program ends, and the lines on standard error that come with them.
-ghost use Rattle.std.specs.Prelude.{◌≡◌, ◌⊎◌, false, true, IfErr, IfOk, OnErr, OnOk};
+ghost use Rattle.std.specs.Prelude.{◌≡◌, ◌⊎◌, false, true};
 ghost use Rattle.std.specs.Process.{exit_status};
 ghost use Rattle.szg_commands.specs.Outcome.{OnDone, OnRefused, status_of};
-ghost use Rattle.szg_commands.specs.Statuses.{HasStatus, stop_status, tally_status};
+ghost use Rattle.szg_commands.specs.Statuses.{HasStatus, tally_status};
 
 use crate::on_files::{Ending, FileFailure, LineKind};
 use crate::outcome::Outcome;
-use std::alloc::{AllocError, Global};
+use std::alloc::AllocError;
 use std::io;
 use std::process::ExitCode;
-use szg_files::{FileFault, Published};
-use szg_named::{CheckCounts, CheckReport, CheckStop, escaped_path, fault_text};
+use szg_named::{CheckCounts, CheckStop, escaped_path, fault_text};
 
 /// The status where the words of the command line can't be had: one is no text, or memory is short.
 pub fn no_words_status(rt: &impl Eprint, error: &io::Error) -> ExitCode
@@ -57,18 +56,6 @@ fn tally_status(tally: &CheckCounts) -> ExitCode
     ExitCode::from(0)
 }
 
-/// The status of a check of files that may have ended early.
-fn files_status(rt: &impl Eprint, stated: Result<CheckReport, CheckStop>) -> ExitCode
-    ensures checked { IfOk stated (λ report. exit_status result ≡ tally_status report.counts) }
-    ensures stopped { IfErr stated (λ stop. (exit_status result ≡ stop_status stop) ⊎ (exit_status result ≡ 3)) }
-{
-    match stated {
-        Ok(report) => tally_status(&report.counts),
-        Err(CheckStop::Device) => status_of(rt, &Outcome::Device),
-        Err(CheckStop::Memory) => status_of(rt, &Outcome::Memory),
-    }
-}
-
 /// The status where a file failed: the file and the reason are printed on standard error.
 fn failure_status(rt: &(impl Eprint + AllocGlobal), failure: FileFailure<'_>) -> ExitCode
     ensures { (exit_status result ≡ 3) ⊎ (exit_status result ≡ 4) }
@@ -85,18 +72,12 @@ fn failure_status(rt: &(impl Eprint + AllocGlobal), failure: FileFailure<'_>) ->
 fn line_status(rt: &(impl Eprint + AllocGlobal), path: &str, line: u64, due: LineKind) -> ExitCode
     ensures { exit_status result ≡ 3 }
 {
-    print_fault(rt, path, line_text(rt.alloc(), line, due));
+    let due = match due {
+        LineKind::Sum => "a digest and a name",
+        LineKind::Record => "a record of szg check --format tsv or json",
+    };
+    print_fault(rt, path, format!(in rt.alloc(); "line {line} isn't {due}"));
     ExitCode::from(Outcome::Device.status())
-}
-
-/// What is printed of a line that isn't one.
-fn line_text(alloc: Global, line: u64, due: LineKind) -> Result<String, AllocError> {
-    match due {
-        LineKind::Sum => format!(in alloc; "line {line} isn't a digest and a name"),
-        LineKind::Record => {
-            format!(in alloc; "line {line} isn't a record of szg check --format tsv or json")
-        }
-    }
 }
 
 /// Prints a path and what is wrong with its file on standard error. In the path control characters and backslashes are `\xNN`,
@@ -104,28 +85,6 @@ fn line_text(alloc: Global, line: u64, due: LineKind) -> Result<String, AllocErr
 fn print_fault(rt: &(impl Eprint + AllocGlobal), path: &str, reason: Result<String, AllocError>) {
     if let (Ok(path), Ok(reason)) = (escaped_path(rt.alloc(), path), reason) {
         let _ = eprintln!(rt; "{path}: {reason}");
-    }
-}
-
-/// The status of a check whose list of digests was to be written.
-fn listed_status(
-    rt: &(impl Eprint + AllocGlobal),
-    report: CheckReport,
-    target: &str,
-    written: Result<Published<'_>, FileFault>,
-) -> ExitCode
-    ensures listed { OnOk written.entry (exit_status result ≡ tally_status report.counts) }
-    ensures unlisted { OnErr written.entry ((exit_status result ≡ 3) ⊎ (exit_status result ≡ 4)) }
-{
-    match written {
-        Ok(_) => tally_status(&report.counts),
-        Err(fault) => failure_status(
-            rt,
-            FileFailure {
-                path: target,
-                fault,
-            },
-        ),
     }
 }
 
@@ -143,15 +102,22 @@ pub(crate) fn ending_status(
     }
     match ending {
         Ending::Words(outcome) => status_of(rt, &outcome),
-        Ending::Checked(stated) => files_status(rt, stated),
+        Ending::Checked(Ok(report)) => tally_status(&report.counts),
+        Ending::Checked(Err(CheckStop::Device)) => status_of(rt, &Outcome::Device),
+        Ending::Checked(Err(CheckStop::Memory)) => status_of(rt, &Outcome::Memory),
         Ending::Done(_) => status_of(rt, &Outcome::Done),
         Ending::Refused => status_of(rt, &Outcome::Refused),
         Ending::Failed(failure) => failure_status(rt, failure),
         Ending::Listed {
             report,
-            target,
-            written,
-        } => listed_status(rt, report, target, written),
+            written: Ok(_),
+            ..
+        } => tally_status(&report.counts),
+        Ending::Listed {
+            target: path,
+            written: Err(fault),
+            ..
+        } => failure_status(rt, FileFailure { path, fault }),
         Ending::BadLine { path, line, due } => line_status(rt, path, line, due),
         Ending::Device => status_of(rt, &Outcome::Device),
         Ending::Memory => status_of(rt, &Outcome::Memory),

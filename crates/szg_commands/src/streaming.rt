@@ -7,8 +7,7 @@ ghost use Rattle.szg_values.specs.Material.{IsMaterial, name_of};
 ghost use Rattle.szg_file.specs.Held.{Shown, file_bytes};
 ghost use Rattle.szg_file.specs.Index.{index_of};
 ghost use Rattle.szg_commands.specs.Answers.{number_line};
-ghost use Rattle.szg_commands.specs.OnFiles.{IsCarriedFrom, MeetsFrom};
-ghost use Rattle.szg_commands.specs.Refusals.{part_refusal};
+ghost use Rattle.szg_commands.specs.OnFiles.{IsCarriedFrom, ListsValues, MeetsFrom};
 ghost use Rattle.szg_commands.specs.Requests.{IsAnswered, IsListed, IsTableOf, Meets, unplaced_refusal};
 ghost use Rattle.szg_commands.specs.declared.refusal.Refusal.{Refusal};
 ghost use Rattle.szg_commands.specs.declared.request.Action.{Action};
@@ -16,19 +15,19 @@ ghost use Rattle.szg_commands.specs.declared.request.Task.{Task};
 
 use crate::on_files::{FileStop, failed};
 use crate::refusal::{Refusal, Stop};
-use crate::request::{Action, Form, Request};
+use crate::request::{Action, Request, Task};
 use crate::saying::say;
 use itoa::Buffer;
 use std::alloc::{AllocError, Global};
 use std::io::ErrorKind;
 use szg_build::{StreamFault, stream_dump};
-use szg_file::{NoSink, ReadFault, Scanned, SinkFault, TableIndex, ValueSink, scan};
+use szg_file::{NoSink, ReadFault, Scanned, SinkFault, ValueSink, scan};
 use szg_files::{FileFault, FileSystem, Reasons};
 use szg_io::{Input, Output};
 use szg_values::Material;
 
 /// How many bytes of values are written at a time, or a little more.
-const PIECE: usize = 65536;
+const CHUNK: usize = 65536;
 
 // ---- lines
 
@@ -41,13 +40,13 @@ fn add_line(text: &mut Vec<u8>, number: u16) -> Result<(), AllocError>
 }
 
 /// Writes the text that is held where it is long enough, and then holds none.
-fn say_piece<W: Output>(writer: &mut W, text: &mut Vec<u8>) -> Result<(), Stop>
+fn say_chunk<W: Output>(writer: &mut W, text: &mut Vec<u8>) -> Result<(), Stop>
     ensures given { OnOk result ((out : List ℕ) × Gives W.Output writer.old writer.new out 0 × (out ++ text.new.items ≡ text.old.items)) }
     ensures failed { OnErr result (HasFailed (W.failures writer.old) (W.failures writer.new) (W.interrupted writer.new)) }
     ensures device { OnErr result (result ≡ Err Stop.Device) }
     ensures quiet { OnOk result (W.failures writer.new ≡ W.failures writer.old) }
 {
-    if text.len() < PIECE {
+    if text.len() < CHUNK {
         return Ok(());
     }
     say(writer, text)?;
@@ -55,7 +54,7 @@ fn say_piece<W: Output>(writer: &mut W, text: &mut Vec<u8>) -> Result<(), Stop>
     Ok(())
 }
 
-/// Adds each value on a line to the text that is held, and writes it in large pieces.
+/// Adds each value on a line to the text that is held, and writes it in large chunks.
 pub fn add_lines<W: Output>(text: &mut Vec<u8>, values: &[u16], writer: &mut W) -> Result<(), Stop>
     ensures given { OnOk result ((out : List ℕ) × Gives W.Output writer.old writer.new out 0 × (out ++ text.new.items ≡ text.old.items ++ flat_map number_line values.now)) }
     ensures device { IsErrOf result Stop.Device → HasFailed (W.failures writer.old) (W.failures writer.new) (W.interrupted writer.new) }
@@ -66,12 +65,12 @@ pub fn add_lines<W: Output>(text: &mut Vec<u8>, values: &[u16], writer: &mut W) 
 {
     'values: for value in values {
         add_line(text, *value)?;
-        say_piece(writer, text)?;
+        say_chunk(writer, text)?;
     }
     Ok(())
 }
 
-/// Adds a value `count` times, each time on a line, to the text that is held, and writes it in large pieces.
+/// Adds a value `count` times, each time on a line, to the text that is held, and writes it in large chunks.
 pub fn add_same<W: Output>(
     text: &mut Vec<u8>,
     value: u16,
@@ -87,7 +86,7 @@ pub fn add_same<W: Output>(
 {
     'values: for _done in 0..count {
         add_line(text, value)?;
-        say_piece(writer, text)?;
+        say_chunk(writer, text)?;
     }
     Ok(())
 }
@@ -140,11 +139,14 @@ impl<W: Output> ValueSink<W> for LineSink {
 
 // ---- a file
 
-/// Whether an action lists a table's values, as they are or as a dump.
-pub fn is_listed(action: &Action) -> bool
-    ensures { (result ≡ true) → IsListed action.now }
+/// Whether a task lists a table's values, as they are or as a dump.
+pub fn lists_values(task: &Task) -> bool
+    ensures { (result ≡ true) → ListsValues task.now }
 {
-    matches!(action, Action::Values | Action::Dump(_))
+    match task {
+        Task::OnTable(request) => matches!(request.action, Action::Values | Action::Dump(_)),
+        Task::Build(_) => false,
+    }
 }
 
 /// Checks the file of the request's name and kind. It keeps no block.
@@ -168,36 +170,21 @@ fn read_index<F: Input>(alloc: Global, request: &Request, file: &mut F) -> Resul
     }
 }
 
-/// Checks the file of the request's name and kind, and whether the table has the part and side.
-fn check_part<F: Input>(alloc: Global, request: &Request, file: &mut F) -> Result<(), Stop>
-    requires values { request.now.action ≡ Action.Values }
+/// Checks the file of the request's name and kind, and whether the table has the part and side whose values are asked.
+fn read_listed<F: Input>(alloc: Global, request: &Request, file: &mut F) -> Result<Scanned, Stop>
+    requires listed { IsListed request.now.action }
     requires first { F.moved file.old ≡ [] }
+    ensures table { IfOk result (λ scanned. (t : Shown) × IsTableOf request.now t × (scanned.index ≡ index_of t.contents) × Takes F.Input file.old file.new (file_bytes t) 1) }
     ensures refused { (refusal : Refusal) → IsErrOf result (Stop.Refused refusal) → Meets F.Input (Task.OnTable request.now) file.old file.new refusal }
 {
     let scanned = read_index(alloc, request, file)?;
-    let size = scanned.index.size(request.part, request.side);
-    part_found(size)
-}
-
-/// Refuses a part and side that the table doesn't have.
-fn part_found(size: Option<u64>) -> Result<(), Stop>
-    ensures { (refusal : Refusal) → IsErrOf result (Stop.Refused refusal) → part_refusal size ≡ Some refusal }
-{
-    match size {
-        Some(_) => Ok(()),
-        None => Err(Stop::Refused(Refusal::Part)),
+    if let Action::Values = &request.action {
+        match scanned.index.size(request.part, request.side) {
+            Some(_) => {}
+            None => return Err(Stop::Refused(Refusal::Part)),
+        }
     }
-}
-
-/// Why the values of a checked file were not all written.
-#[derive(Clone, Copy)]
-enum LinesStop {
-    /// The file is refused: it changed since it was checked.
-    Changed,
-    /// The file or the writer failed.
-    Device,
-    /// An allocation was refused.
-    Memory,
+    Ok(scanned)
 }
 
 /// Writes each value of the request's part and side on a line, a block's values as soon as the block was read and
@@ -207,13 +194,13 @@ fn write_lines<F: Input, W: Output>(
     request: &Request,
     file: &mut F,
     writer: &mut W,
-) -> Result<(), LinesStop>
+) -> Result<(), StreamFault>
     requires values { request.now.action ≡ Action.Values }
     requires first { F.moved file.old ≡ [] }
     ensures stated { OnOk result (IsAnswered F.Input W.Output request.now file.old file.new writer.old writer.new) }
 {
     let Ok(material) = Material::parse(request.name) else {
-        return Err(LinesStop::Changed);
+        return Err(StreamFault::Changed);
     };
     let mut sink = LineSink {
         part: request.part,
@@ -224,193 +211,55 @@ fn write_lines<F: Input, W: Output>(
     match scan(alloc, material, request.kind, file, &mut sink, writer) {
         Ok(scanned) => {
             let Some(_) = scanned.index.size(request.part, request.side) else {
-                return Err(LinesStop::Changed);
+                return Err(StreamFault::Changed);
             };
             match say(writer, &sink.text) {
                 Ok(()) => Ok(()),
-                Err(_) => Err(LinesStop::Device),
+                Err(_) => Err(StreamFault::Output),
             }
         }
-        Err(fault) => Err(lines_stop(fault, sink.failed)),
+        Err(ReadFault::Refused { .. }) => Err(StreamFault::Changed),
+        Err(ReadFault::Device) => Err(StreamFault::Input),
+        Err(ReadFault::Memory) if sink.failed => Err(StreamFault::Output),
+        Err(ReadFault::Memory) => Err(StreamFault::Memory),
     }
 }
 
-/// Converts a fault of reading; `failed` is whether the writer failed.
-fn lines_stop(fault: ReadFault, failed: bool) -> LinesStop {
-    match fault {
-        ReadFault::Refused { .. } => LinesStop::Changed,
-        ReadFault::Device => LinesStop::Device,
-        ReadFault::Memory if failed => LinesStop::Device,
-        ReadFault::Memory => LinesStop::Memory,
+/// Writes the values of the request's part and side, or the dump of the table, whose file was checked, a block's values as
+/// soon as the block was read and checked.
+fn write_listed<F: Input, W: Output>(
+    alloc: Global,
+    request: &Request,
+    checked: &Scanned,
+    file: &mut F,
+    writer: &mut W,
+) -> Result<(), StreamFault>
+    requires listed { IsListed request.now.action }
+    requires first { F.moved file.old ≡ [] }
+    requires material { IsMaterial checked.now.index.material }
+    requires name { name_of checked.now.index.material ≡ request.now.name.now }
+    requires kind { checked.now.index.kind ≡ request.now.kind }
+    ensures stated { OnOk result (IsAnswered F.Input W.Output request.now file.old file.new writer.old writer.new) }
+{
+    match &request.action {
+        Action::Values => write_lines(alloc, request, file, writer),
+        Action::Dump(form) => {
+            let Scanned { index, last, .. } = checked;
+            stream_dump(alloc, index, last, form.number(), file, writer)?;
+            Ok(())
+        }
+        _ => unreachable!(),
     }
 }
 
 /// Why a file's device stops a task.
-fn device_stop<'a, F: Reasons>(source: &'a str, file: &F) -> FileStop<'a>
-    ensures { (refusal : Refusal) → (result ≡ FileStop.Refused refusal) → ⊥ }
+pub(crate) fn device_stop<'a, F: Reasons>(source: &'a str, file: &F) -> FileStop<'a>
+    ensures refused { (refusal : Refusal) → (result ≡ Stop.Refused refusal) → ⊥ }
+    ensures memory { (result ≡ Stop.Memory) → ⊥ }
 {
     match file.reason() {
         Some(error) => failed(source, FileFault::System(error)),
-        None => FileStop::Device,
-    }
-}
-
-/// Why lines of a checked file stop a task.
-fn lines_failed<'a, F: Reasons>(source: &'a str, file: &F, stop: LinesStop) -> FileStop<'a>
-    ensures { (refusal : Refusal) → (result ≡ FileStop.Refused refusal) → ⊥ }
-{
-    match stop {
-        LinesStop::Changed => {
-            let changed = FileFault::System(ErrorKind::InvalidData.into());
-            failed(source, changed)
-        }
-        LinesStop::Device => device_stop(source, file),
-        LinesStop::Memory => FileStop::Memory,
-    }
-}
-
-/// Writes each value of a part and side of the file at `source` on a line. The file is read twice: the first time it is
-/// checked, and where it is refused nothing was written. The second time the values are written. It keeps one block and
-/// its values in memory, and what precedes the blocks.
-///
-/// Errors: `Failed`, if the file changed between and is refused then; a part of the values may be written.
-fn values_from<'a, S: FileSystem, W: Output>(
-    alloc: Global,
-    request: &Request,
-    source: &'a str,
-    system: &mut S,
-    writer: &mut W,
-) -> Result<(), FileStop<'a>>
-    requires values { request.now.action ≡ Action.Values }
-    ensures stated { OnOk result (IsCarriedFrom S.content S.failures S.File.Input W.Output (Task.OnTable request.now) source.now None system.old system.new writer.old writer.new None) }
-    ensures refused { (refusal : Refusal) → IsErrOf result (FileStop.Refused refusal) → (writer.new ≡ writer.old)
-        × MeetsFrom S.content S.failures S.File.Input (Task.OnTable request.now) source.now system.old system.new refusal }
-{
-    let mut file = match system.open(source) {
-        Ok(file) => file,
-        Err(fault) => return Err(failed(source, fault)),
-    };
-    match check_part(alloc, request, &mut file) {
-        Ok(()) => write_from(alloc, request, source, system, writer),
-        Err(Stop::Refused(refusal)) => Err(FileStop::Refused(refusal)),
-        Err(Stop::Device) => Err(device_stop(source, &file)),
-        Err(Stop::Memory) => Err(FileStop::Memory),
-    }
-}
-
-/// Writes each value of a part and side of the file at `source`, which was checked, on a line.
-fn write_from<'a, S: FileSystem, W: Output>(
-    alloc: Global,
-    request: &Request,
-    source: &'a str,
-    system: &mut S,
-    writer: &mut W,
-) -> Result<(), FileStop<'a>>
-    requires values { request.now.action ≡ Action.Values }
-    ensures stated { OnOk result (IsCarriedFrom S.content S.failures S.File.Input W.Output (Task.OnTable request.now) source.now None system.old system.new writer.old writer.new None) }
-    ensures only { (refusal : Refusal) → IsErrOf result (FileStop.Refused refusal) → ⊥ }
-{
-    let mut file = match system.open(source) {
-        Ok(file) => file,
-        Err(fault) => return Err(failed(source, fault)),
-    };
-    match write_lines(alloc, request, &mut file, writer) {
-        Ok(()) => Ok(()),
-        Err(stop) => Err(lines_failed(source, &file, stop)),
-    }
-}
-
-// ---- dumps
-
-/// Writes the dump of the table with this index and these last bytes, whose file was checked, a block's values as soon as
-/// the block was read and checked.
-fn write_dump_lines<F: Input, W: Output>(
-    alloc: Global,
-    request: &Request,
-    form: Form,
-    index: &TableIndex,
-    last: &[u8; 16],
-    file: &mut F,
-    writer: &mut W,
-) -> Result<(), LinesStop>
-    requires dump { request.now.action ≡ Action.Dump form }
-    requires first { F.moved file.old ≡ [] }
-    requires material { IsMaterial index.now.material }
-    requires name { name_of index.now.material ≡ request.now.name.now }
-    requires kind { index.now.kind ≡ request.now.kind }
-    ensures stated { OnOk result (IsAnswered F.Input W.Output request.now file.old file.new writer.old writer.new) }
-{
-    match stream_dump(alloc, index, last, form.number(), file, writer) {
-        Ok(()) => Ok(()),
-        Err(StreamFault::Changed) => Err(LinesStop::Changed),
-        Err(StreamFault::Input) | Err(StreamFault::Output) => Err(LinesStop::Device),
-        Err(StreamFault::Memory) => Err(LinesStop::Memory),
-    }
-}
-
-/// Writes the dump of the file at `source`, which was checked.
-fn write_dump_from<'a, S: FileSystem, W: Output>(
-    alloc: Global,
-    request: &Request,
-    form: Form,
-    index: &TableIndex,
-    last: &[u8; 16],
-    source: &'a str,
-    system: &mut S,
-    writer: &mut W,
-) -> Result<(), FileStop<'a>>
-    requires dump { request.now.action ≡ Action.Dump form }
-    requires material { IsMaterial index.now.material }
-    requires name { name_of index.now.material ≡ request.now.name.now }
-    requires kind { index.now.kind ≡ request.now.kind }
-    ensures stated { OnOk result (IsCarriedFrom S.content S.failures S.File.Input W.Output (Task.OnTable request.now) source.now None system.old system.new writer.old writer.new None) }
-    ensures only { (refusal : Refusal) → IsErrOf result (FileStop.Refused refusal) → ⊥ }
-{
-    let mut file = match system.open(source) {
-        Ok(file) => file,
-        Err(fault) => return Err(failed(source, fault)),
-    };
-    match write_dump_lines(alloc, request, form, index, last, &mut file, writer) {
-        Ok(()) => Ok(()),
-        Err(stop) => Err(lines_failed(source, &file, stop)),
-    }
-}
-
-/// Writes the dump of the file at `source`. The file is read twice: the first time it is checked, and where it is refused
-/// nothing was written. The second time the lines are written.
-///
-/// Errors: `Failed`, if the file changed between and is refused then; a part of the dump may be written.
-fn dump_from<'a, S: FileSystem, W: Output>(
-    alloc: Global,
-    request: &Request,
-    form: Form,
-    source: &'a str,
-    system: &mut S,
-    writer: &mut W,
-) -> Result<(), FileStop<'a>>
-    requires dump { request.now.action ≡ Action.Dump form }
-    ensures stated { OnOk result (IsCarriedFrom S.content S.failures S.File.Input W.Output (Task.OnTable request.now) source.now None system.old system.new writer.old writer.new None) }
-    ensures refused { (refusal : Refusal) → IsErrOf result (FileStop.Refused refusal) → (writer.new ≡ writer.old)
-        × MeetsFrom S.content S.failures S.File.Input (Task.OnTable request.now) source.now system.old system.new refusal }
-{
-    let mut file = match system.open(source) {
-        Ok(file) => file,
-        Err(fault) => return Err(failed(source, fault)),
-    };
-    match read_index(alloc, request, &mut file) {
-        Ok(scanned) => write_dump_from(
-            alloc,
-            request,
-            form,
-            &scanned.index,
-            &scanned.last,
-            source,
-            system,
-            writer,
-        ),
-        Err(Stop::Refused(refusal)) => Err(FileStop::Refused(refusal)),
-        Err(Stop::Device) => Err(device_stop(source, &file)),
-        Err(Stop::Memory) => Err(FileStop::Memory),
+        None => Stop::Device,
     }
 }
 
@@ -428,12 +277,30 @@ pub fn stream_from<'a, S: FileSystem, W: Output>(
 ) -> Result<(), FileStop<'a>>
     requires listed { IsListed request.now.action }
     ensures stated { OnOk result (IsCarriedFrom S.content S.failures S.File.Input W.Output (Task.OnTable request.now) source.now None system.old system.new writer.old writer.new None) }
-    ensures refused { (refusal : Refusal) → IsErrOf result (FileStop.Refused refusal) → (writer.new ≡ writer.old)
+    ensures refused { (refusal : Refusal) → IsErrOf result (Stop.Refused refusal) → (writer.new ≡ writer.old)
         × MeetsFrom S.content S.failures S.File.Input (Task.OnTable request.now) source.now system.old system.new refusal }
 {
-    match &request.action {
-        Action::Values => values_from(alloc, request, source, system, writer),
-        Action::Dump(form) => dump_from(alloc, request, *form, source, system, writer),
-        _ => unreachable!(),
+    let mut file = match system.open(source) {
+        Ok(file) => file,
+        Err(fault) => return Err(failed(source, fault)),
+    };
+    let checked = match read_listed(alloc, request, &mut file) {
+        Ok(checked) => checked,
+        Err(Stop::Refused(refusal)) => return Err(Stop::Refused(refusal)),
+        Err(Stop::Device) => return Err(device_stop(source, &file)),
+        Err(Stop::Memory) => return Err(Stop::Memory),
+    };
+    let mut again = match system.open(source) {
+        Ok(again) => again,
+        Err(fault) => return Err(failed(source, fault)),
+    };
+    match write_listed(alloc, request, &checked, &mut again, writer) {
+        Ok(()) => Ok(()),
+        Err(StreamFault::Changed) => {
+            let changed = FileFault::System(ErrorKind::InvalidData.into());
+            Err(failed(source, changed))
+        }
+        Err(StreamFault::Input | StreamFault::Output) => Err(device_stop(source, &again)),
+        Err(StreamFault::Memory) => Err(Stop::Memory),
     }
 }

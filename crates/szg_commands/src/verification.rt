@@ -1,6 +1,7 @@
 //! The verification of a folder's tables: `szg verify FOLDER [NAME..] [--resume LOG] [--shard K/N]`.
 
 use crate::results::outcome_of;
+use crate::sorting::sorted_words;
 use crate::statuses::status_of;
 use std::alloc::{AllocError, Global};
 use std::io::Write;
@@ -17,91 +18,25 @@ pub struct FolderWords<'a> {
     shard: Option<&'a str>,
 }
 
-impl<'a> FolderWords<'a> {
-    /// Sets the option of a word, whose value may be the next one; returns the words after both. None if it is no option, has
-    /// no value, or was set before.
-    fn set_option(&mut self, word: &'a str, rest: &'a [&'a str]) -> Option<&'a [&'a str]> {
-        if let Some((log, after)) = value_of("--resume", word, rest) {
-            if self.log.is_some() {
-                return None;
-            }
-            self.log = Some(log);
-            return Some(after);
-        }
-        let (shard, after) = value_of("--shard", word, rest)?;
-        if self.shard.is_some() {
-            return None;
-        }
-        self.shard = Some(shard);
-        Some(after)
-    }
-}
-
-/// Returns what a command line asks to verify: its command is `verify`, and after it come a folder and names, with options
-/// anywhere up to `--`. None for other words.
+/// Returns what a command line asks to verify: its command is `verify`, and after it come a folder and names, with each option
+/// at most once. None for other words.
 pub(crate) fn verification_of<'a>(
     alloc: Global,
     words: &'a [&'a str],
 ) -> Result<Option<FolderWords<'a>>, AllocError> {
-    let Some(mut rest) = after_command(words, "verify") else {
+    let Some(found) = sorted_words(alloc, words, "verify", &["--resume", "--shard"])? else {
         return Ok(None);
     };
-    let mut found = FolderWords {
-        words: Vec::new(alloc),
-        log: None,
-        shard: None,
-    };
-    let mut has_options = true;
-    'words: for _ in 0..words.len() {
-        let Some((word, after)) = rest.split_first() else {
-            break;
-        };
-        rest = after;
-        if has_options && *word == "--" {
-            has_options = false;
-        } else if has_options && word.starts_with('-') {
-            let Some(after) = found.set_option(word, rest) else {
-                return Ok(None);
-            };
-            rest = after;
-        } else {
-            found.words.push(word)?;
-        }
+    let logs = found.values_of(alloc, "--resume")?;
+    let shards = found.values_of(alloc, "--shard")?;
+    if found.words.is_empty() || logs.len() > 1 || shards.len() > 1 {
+        return Ok(None);
     }
-    Ok(if found.words.is_empty() {
-        None
-    } else {
-        Some(found)
-    })
-}
-
-/// Returns the words after a command. None for another command.
-pub(crate) fn after_command<'a>(words: &'a [&'a str], command: &'a str) -> Option<&'a [&'a str]> {
-    words.get(1..)?.strip_prefix(&[command])
-}
-
-/// Returns the value of an option and the words after it: it is in the option's word, after `=`, or it is the next word. None
-/// for another option, and without a value.
-pub(crate) fn value_of<'a>(
-    option: &str,
-    word: &'a str,
-    rest: &'a [&'a str],
-) -> Option<(&'a str, &'a [&'a str])> {
-    let joined = word.strip_prefix(option)?;
-    let (value, after) = if joined.is_empty() {
-        let (next, after) = rest.split_first()?;
-        if next.starts_with('-') {
-            return None;
-        }
-        (*next, after)
-    } else {
-        (joined.strip_prefix('=')?, rest)
-    };
-    if value.is_empty() {
-        None
-    } else {
-        Some((value, after))
-    }
+    Ok(Some(FolderWords {
+        words: found.words,
+        log: logs.first().copied(),
+        shard: shards.first().copied(),
+    }))
 }
 
 /// Verifies what a command line asks for, and writes a line for each material and a summary, or the line of a shard. The

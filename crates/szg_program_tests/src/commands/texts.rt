@@ -165,7 +165,7 @@ static READERS: [Command<'_>; 4] = [
             usage: "[OPTIONS] <FILE> <INDEX>",
             arguments: &[TABLE, INDEX],
             options: &[PART, SIDE, STEPS, VERIFY, NAMED, KINDED, HELP],
-            end: "Example: szg get KQvK.rtbw 31331 --side 1 Standard input: szg get KQvK wdl 31331 --side 1 < KQvK.rtbw",
+            end: "Example: szg get KQvK.rtbw 31331 --side 1 Result of a position: szg probe [--format json] FOLDER FEN Standard input: szg get KQvK wdl 31331 --side 1 < KQvK.rtbw",
         },
     },
     Command {
@@ -181,7 +181,7 @@ static READERS: [Command<'_>; 4] = [
             usage: "[OPTIONS] <FILE>",
             arguments: &[TABLE],
             options: &[PART, SIDE, NAMED, KINDED, HELP],
-            end: "Example: szg values KPvK.rtbw --part c Standard input: szg values KPvK wdl --part c < KPvK.rtbw",
+            end: "Example: szg values KPvK.rtbw --part c Result of a position: szg probe [--format json] FOLDER FEN Standard input: szg values KPvK wdl --part c < KPvK.rtbw",
         },
     },
 ];

@@ -1,7 +1,8 @@
+use Rattle.std.proofs.Common.{◌∙◌}
 use Rattle.std.specs.Prelude.{string_bytes}
 use Rattle.szg_commands.specs.Fronts.{IsLookUpAnswer, IsLookUpRefused}
 use Rattle.szg_commands.specs.declared.request.Action.TheVariants.{Index}
-use Rattle.szg_commands.specs.declared.request.Class.TheVariants.{Win}
+use Rattle.szg_commands.specs.declared.request.AskedClass.TheVariants.{Win}
 use Rattle.szg_commands.proofs.FrontFacts.{ok_then, spot_refused, spot_of_fetched, unfetched}
 use Rattle.szg_commands.proofs.fronts.look_up_line.Goals as goal
 
@@ -13,24 +14,24 @@ returns-in-Get-clause-refused g c = λ refusal is. rw (c.in-Get.is) (c.get_line.
 
 pub returns-in-Index-clause-stated : goal.returns-in-Index-clause-stated
 returns-in-Index-clause-stated g c =
-    let kept = c.args.opened.now.front in let board = c.in-Index.placement in
+    let kept = c.args.opened.now.front in let x = c.index.result.now in let board = c.in-Index.placement in
     rw (c.in-Index.is)
     (
     ok_then c.index_line.result _ _
     (λ line stated. unfetched g.S.File.Input c.args.file kept c.args.opened.now.read c.args.opened.now.size
     (λ content t. IsLookUpAnswer (Index board) c.args.request.now.part c.args.request.now.side content t (string_bytes line)) c.requires.room
-    (λ content h. spot_of_fetched kept.index board Win h.table h.index_is (string_bytes line) stated))
+    (λ content h. spot_of_fetched x board Win h.table (c.index.ensures ∙ h.index_is) (string_bytes line) stated))
     c.index_line.ensures.stated
     )
 
 pub returns-in-Index-clause-refused : goal.returns-in-Index-clause-refused
 returns-in-Index-clause-refused g c = λ refusal is.
-    let kept = c.args.opened.now.front in let board = c.in-Index.placement in
+    let kept = c.args.opened.now.front in let x = c.index.result.now in let board = c.in-Index.placement in
     rw (c.in-Index.is)
     (
     unfetched g.S.File.Input c.args.file kept c.args.opened.now.read c.args.opened.now.size
     (λ content t. IsLookUpRefused (Index board) c.args.request.now.part c.args.request.now.side content t refusal) c.requires.room
-    (λ content h. spot_refused kept.index board Win h.table h.index_is refusal (c.index_line.ensures.refused refusal is))
+    (λ content h. spot_refused x board Win h.table (c.index.ensures ∙ h.index_is) refusal (c.index_line.ensures.refused refusal is))
     )
 
 pub returns-in-Probe-clause-stated : goal.returns-in-Probe-clause-stated

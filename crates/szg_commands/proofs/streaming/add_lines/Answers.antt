@@ -8,12 +8,12 @@ values-init g c = record { quiet = refl; out = []; given = Gives-none _ _ 0; lin
 
 pub values-preserved : goal.values-preserved
 values-preserved g c =
-    let piece = c.in_ok-say_piece.ensures.given in
+    let chunk = c.in_ok-say_chunk.ensures.given in
     record {
       quiet = search rules;
-      out = c.values.invariant.out ++ piece.0;
-      given = Gives-on _ _ 0 c.values.invariant.given piece.1;
-      lines = lines_on _ _ _ _ _ _ _ (search rules) c.values.invariant.lines (piece.2 ∙ c.in_ok-add_line.ensures);
+      out = c.values.invariant.out ++ chunk.0;
+      given = Gives-on _ _ 0 c.values.invariant.given chunk.1;
+      lines = lines_on _ _ _ _ _ _ _ (search rules) c.values.invariant.lines (chunk.2 ∙ c.in_ok-add_line.ensures);
     }
 
 pub returns-in_err-add_line-clause-memory : goal.returns-in_err-add_line-clause-memory
