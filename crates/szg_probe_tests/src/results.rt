@@ -387,7 +387,7 @@ struct Unsteady<'a> {
     later: &'a [u8],
     /// Why a DTZ table's file isn't opened.
     kind: ErrorKind,
-    memory: MemoryFiles<'a>,
+    failures: u64,
 }
 
 impl<'a> FileSystem for Unsteady<'a> {
@@ -395,52 +395,61 @@ impl<'a> FileSystem for Unsteady<'a> {
 
     ghost content = { λ system path. None };
 
-    ghost failures = { λ system. system.memory.failures };
+    ghost failures = { λ system. system.failures };
 
     fn open(&mut self, path: &str) -> Result<Bytes<'a>, FileFault> {
         if path.ends_with(".rtbw") {
             return Ok(Bytes::new(replace(&mut self.next, self.later)));
         }
-        self.memory.failures = self.memory.failures.saturating_add(1);
+        self.failures = self.failures.saturating_add(1);
         Err(FileFault::System(Error::from(self.kind)))
     }
 
     fn len(&self, file: &Bytes<'a>) -> Result<u64, FileFault> {
-        self.memory.len(file)
+        Ok(file.left().len() as u64)
     }
 
     fn skip(&self, file: Bytes<'a>, count: u64) -> Result<Bytes<'a>, FileFault> {
-        self.memory.skip(file, count)
+        let left = file.left();
+        let first = count.min(left.len() as u64) as usize;
+        Ok(Bytes::new(&left[first..]))
     }
 
-    fn read_at(&mut self, path: &str, len: u64, at: u64, out: &mut [u8]) -> Result<(), RangeFault> {
+    fn read_at(
+        &mut self,
+        path: &str,
+        size: u64,
+        offset: u64,
+        bytes: &mut [u8],
+    ) -> Result<(), RangeFault> {
         if !path.ends_with(".rtbw") {
             return Err(RangeFault::Failed(FileFault::System(Error::from(self.kind))));
         }
-        let bytes = replace(&mut self.next, self.later);
-        let mut found = MemoryFiles {
-            files: &[MemoryFile { path, bytes }],
-            failures: 0,
-        };
-        found.read_at(path, len, at, out)
+        let known = replace(&mut self.next, self.later);
+        if known.len() as u64 != size || size < offset {
+            return Err(RangeFault::Ended);
+        }
+        let rest = &known[offset as usize..];
+        if rest.len() < bytes.len() {
+            return Err(RangeFault::Ended);
+        }
+        bytes.copy_from_slice(&rest[..bytes.len()]);
+        Ok(())
     }
 }
 
 /// The system's error that a probe meets. None if it meets none.
-fn error_met<'a>(
+fn error_met(
     rt: &(impl Abort + Alloc<A = Global>),
-    bytes: &'a [u8],
-    later: &'a [u8],
+    bytes: &[u8],
+    later: &[u8],
     kind: ErrorKind,
 ) -> Option<ErrorKind> {
     let mut system = Unsteady {
         next: bytes,
         later,
         kind,
-        memory: MemoryFiles {
-            files: &[],
-            failures: 0,
-        },
+        failures: 0,
     };
     let mut folders = Folders::new(rt.alloc(), &["t"]);
     match folders.line(rt.alloc(), &mut system, MATE_IN_ONE) {
