@@ -1,7 +1,7 @@
 /* Calls the library COUNT times on an opened table, for counts of instructions: costs FOLDER CALL COUNT
  * CALL is check, open, get (short words), get_long (long pairs), index or share; again probes one position by a tablebase, whose
- * block is verified once. With keep it prints instead how many bytes of
- * heap a tablebase keeps for FOLDER's large.rtbw. */
+ * block is verified once, and behind by one to which the tables of 65 other materials were added before. With keep it prints
+ * instead how many bytes of heap a tablebase keeps for FOLDER's large.rtbw. */
 #include "trying.h"
 #include <malloc.h>
 
@@ -22,11 +22,37 @@ static int keep(const char *folder) {
     return failed;
 }
 
-static int again(uint64_t times) {
+/* Adds constant tables of White's king and two to four queens, rooks, bishops and knights against Black's king. */
+static void add_others(szg_tablebase *tablebase) {
+    static uint8_t held[65][80];
+    static char names[65][8];
+    static const uint8_t begin[] = {0x71, 0xe8, 0x23, 0x5d, 1, 0, 0x66};
+    int n = 0;
+    for (int four = 0; four < 625; four++) {
+        int men[] = {four / 125, four / 25 % 5, four / 5 % 5, four % 5}, count = 0;
+        /* 4 is no man */
+        while (count < 4 && men[count] < 4) count++;
+        bool falls = count < 2;
+        for (int i = 1; i < 4; i++) falls |= men[i] < men[i - 1];
+        if (falls) continue;
+        memcpy(held[n], begin, sizeof begin);
+        names[n][0] = 'K';
+        for (int i = 0; i < count; i++) names[n][1 + i] = "QRBN"[men[i]], held[n][7 + i] = (uint8_t)(0x55 - 0x11 * men[i]);
+        names[n][1 + count] = 'v', names[n][2 + count] = 'K', held[n][7 + count] = 0xee;
+        size_t flags = (size_t)(8 + count + count % 2);
+        held[n][flags] = held[n][flags + 2] = 0x80;
+        want("add another", szg_tablebase_add(tablebase, names[n], strlen(names[n]), false, held[n], 80, &answer), SZG_DONE);
+        n++;
+    }
+    want("others", n, 65);
+}
+
+static int again(uint64_t times, bool is_behind) {
     static const szg_man men[3] = {{SZG_KING, SZG_WHITE, 1}, {SZG_QUEEN, SZG_WHITE, 17}, {SZG_KING, SZG_BLACK, 34}};
     szg_tablebase tablebase = SZG_NO_TABLEBASE;
     szg_missing missing;
     int8_t class;
+    if (is_behind) add_others(&tablebase);
     want("add", szg_tablebase_add(&tablebase, OF_FILE, &answer), SZG_DONE);
     for (uint64_t i = 0; i < times; i++) want("class", szg_tablebase_wdl(&tablebase, men, 3, SZG_WHITE, SZG_NO_SQUARE, &class, &missing), SZG_DONE);
     szg_close_tablebase(&tablebase);
@@ -40,7 +66,7 @@ int main(int count, char **words) {
     uint64_t times = strtoull(words[3], NULL, 10), sum = 0;
     szg_table other = SZG_NO_TABLE;
     load_sample(words[1], strcmp(call, "get_long") == 0 ? PAIRED : UNPAIRED);
-    if (strcmp(call, "again") == 0) return again(times);
+    if (strcmp(call, "again") == 0 || strcmp(call, "behind") == 0) return again(times, strcmp(call, "behind") == 0);
     want("open", szg_open(OF_FILE, &table, &answer), SZG_DONE);
     for (uint64_t i = 0; i < times; i++) {
         uint16_t value = 0;
