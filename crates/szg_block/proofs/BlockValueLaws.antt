@@ -51,10 +51,6 @@ module _ (size i block item : ℕ) where
   held_within None h = absurd h
   held_within (Some layout) h = h.within
 
-  pub held_there : (o : Option Layout) → IsSomeAnd o (λ layout. IsHeldAt layout size i block item) → IsSomeAnd o (λ layout. block < layout.blocks)
-  held_there None h = absurd h
-  held_there (Some layout) h = h.there
-
   pub held_before : (o : Option Layout) → IsSomeAnd o (λ layout. IsHeldAt layout size i block item) → IsSomeAnd o (λ layout. i - item ≡ start layout.lengths block)
   held_before None h = absurd h
   held_before (Some layout) h = h.before

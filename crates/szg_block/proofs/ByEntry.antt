@@ -7,7 +7,6 @@ use Rattle.std.proofs.lemmas.Nat.{pow_pos}
 use Rattle.std.proofs.lemmas.Option.{get_or_from_slice_get, slice_get_within}
 use Rattle.szg_code.specs.Acceptance.{IsCode}
 use Rattle.szg_code.specs.Bits.{bits}
-use Rattle.szg_code.specs.Canonical.{CanonicalCode}
 use Rattle.szg_block.specs.Layout.{Layout, SparseEntry}
 use Rattle.szg_block.specs.Block.{start, block_at}
 use Rattle.szg_block.specs.BlocksTrait.{packed_blocks}
@@ -26,7 +25,7 @@ use Rattle.szg_block.proofs.Walking.{none_past, one_block}
 use Rattle.szg_block.proofs.WordAt.{word_count-at, descent_count-at}
 
 -- the span of each value has an entry
-span_there : (span_bits size i : ℕ) → i < size → i / 2 ^ span_bits < entry_count span_bits size
+pub span_there : (span_bits size i : ℕ) → i < size → i / 2 ^ span_bits < entry_count span_bits size
 unfolding entry_count
 span_there span_bits size i h =
     let w : ℕ = 2 ^ span_bits in
@@ -59,6 +58,17 @@ module _ (lengths : List ℕ) (span_bits i : ℕ) (entry : Entry) (good : IsGood
 
   pub led_back : i % 2 ^ span_bits + entry.offset < 2 ^ span_bits / 2 → start lengths entry.block ≡ i + (2 ^ span_bits / 2 - (i % 2 ^ span_bits + entry.offset))
   led_back h = omega (arith, middle_at, h)
+
+-- a good entry leads from the start of its block to value i of the next span
+pub led_after : (lengths : List ℕ) (span_bits i j : ℕ) (entry : Entry) → i / 2 ^ span_bits ≡ j + 1 → IsGoodAt lengths span_bits j entry →
+    start lengths entry.block + (i % 2 ^ span_bits + entry.offset + (2 ^ span_bits - 2 ^ span_bits / 2)) ≡ i
+unfolding middle_of_span
+led_after lengths span_bits i j entry next good =
+    let w : ℕ = 2 ^ span_bits in
+    let d : w * (i / w) + i % w ≡ i = div-add-mod i w in
+    let e : w * (i / w) ≡ w * (j + 1) = ap (λ (n : ℕ). w * n) next in
+    let f : w * (j + 1) ≡ j * w + w = omega arith in
+    omega (arith, d, e, f, good.1)
 
 -- the result of a walk from the sparse entry to value i: its block, its index there, and the moves to that block
 pub record IsFoundAt (layout : Layout) (i j p m : ℕ) : Type 0 where

@@ -19,3 +19,6 @@ pub mod Chunks
 pub mod BlockValueLaws
 pub mod Deciding
 pub mod Finding
+pub mod Kept
+pub mod KeptLayouts
+pub mod KeptChecks

@@ -1,6 +1,5 @@
 -- The sparse index and the block lengths of a subtable, apart from its header.
-use Rattle.std.specs.Prelude.{ℕ, ◌≡◌, ◌<◌, List, Option, IsSomeAnd}
-use Rattle.std.specs.Option.{option_map}
+use Rattle.std.specs.Prelude.{ℕ, ◌≡◌, List}
 use Rattle.szg_block.specs.Layout.{Layout, SparseEntry}
 use Rattle.szg_block.specs.Sound.{IsShapedLayout, HasTotal, HasGoodEntry}
 use Rattle.szg_block.specs.Steps.{block_location, move_count}

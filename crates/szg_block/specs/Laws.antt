@@ -9,8 +9,9 @@ use Rattle.szg_code.specs.Acceptance.{IsCode}
 use Rattle.szg_code.specs.Bits.{bits}
 use Rattle.szg_code.specs.Spelling.{symbols_spelled}
 use Rattle.szg_block.specs.Layout.{Layout, SparseEntry}
-use Rattle.szg_block.specs.Block.{HasValues, block_at, block_values}
+use Rattle.szg_block.specs.Block.{HasValues, block_at, block_values, needed}
 use Rattle.szg_block.specs.Expansion.{joined_values}
+use Rattle.szg_block.specs.Kept.{kept_lengths, kept_layout, CanLocate}
 use Rattle.szg_block.specs.FirstFault.{has_total, first_bad_entry, spells_needed}
 use Rattle.szg_block.specs.Sound.{HasGoodEntry, HasTotal, IsShapedLayout, IsSoundLayout, SpellsNeeded}
 use Rattle.szg_block.specs.Steps.{block_location, move_count, word_count, descent_count}
@@ -96,3 +97,15 @@ FoundIsFault = (layout : Layout) → IsCode layout.code → (packed : List ℕ) 
     × (IsLayoutFault layout packed size ShortTotal ↔ (has_total layout size ≡ false))
     × ((k : ℕ) → IsLayoutFault layout packed size (BadEntry k) ↔ (IsTrue (has_total layout size) × (first_bad_entry layout ≡ Some k)))
     × ((n : ℕ) → IsLayoutFault layout packed size (Word n) ↔ (IsTrue (has_total layout size) × (first_bad_entry layout ≡ None) × FailsFirst (PassesBlock layout packed size) n))
+
+-- of the blocks that begin below a size there are no more than values, and with their lengths alone each block needs as many
+-- values, and each value below the size is in the same block at the same index
+abbrev pub KeptLengthsSuffice : Type 0
+KeptLengthsSuffice = (layout : Layout) (size : ℕ) →
+    (length (kept_lengths size layout.lengths) ≤ size)
+    × ((j : ℕ) → needed (kept_lengths size layout.lengths) size j ≡ needed layout.lengths size j)
+    × ((i : ℕ) → i < size → block_location (kept_layout size layout) i ≡ block_location layout i)
+
+-- a sound subtable's values can be located with these lengths alone
+abbrev pub SoundIsLocatable : Type 0
+SoundIsLocatable = (layout : Layout) (size : ℕ) → IsShapedLayout layout size → HasTotal layout size → ((j : ℕ) → HasGoodEntry layout j) → CanLocate (kept_layout size layout) size

@@ -7,10 +7,11 @@
 //! where the subtable ends within it.
 #![tactic(auto)]
 
-ghost use Rattle.std.specs.Prelude.{◌≡◌, ◌<◌, ◌≤◌, ◌↔◌, ◌^◌, ◌/◌, ◌%◌, IsTrue, IfErr, IfNone, IfSome, IsSomeAnd, OnOk, length};
+ghost use Rattle.std.specs.Prelude.{ℕ, ◌≡◌, ◌+◌, ◌<◌, ◌≤◌, ◌↔◌, ◌^◌, ◌/◌, ◌%◌, Err, List, IsTrue, IfErr, IfNone, IfSome, IsSomeAnd, OnOk, length};
 ghost use Rattle.szg_block.specs.Block.{needed, start};
-ghost use Rattle.szg_block.specs.Sound.{SpellsNeeded, entry_count as entry_count_of};
-ghost use Rattle.szg_block.specs.Subtable.{layout_of, packed_of, IsShaped, IsShapedHead, IsSoundOver, HasSoundIndex, IsFaultOf, IsIndexFault};
+ghost use Rattle.szg_block.specs.Kept.{with_lengths, IsKeptOf};
+ghost use Rattle.szg_block.specs.Sound.{HasGoodEntry, HasTotal, SpellsNeeded, entry_count as entry_count_of};
+ghost use Rattle.szg_block.specs.Subtable.{layout_of, packed_of, IsHeaded, IsIndexed, IsLayoutFault, IsShaped, IsShapedHead, IsSoundOver, HasSoundIndex, IsFaultOf, IsIndexFault};
 ghost use Rattle.szg_block.specs.Views.{IsSound};
 
 pub use block_value::{checked_value, value_in_block};
@@ -18,14 +19,14 @@ pub use blocks::{Blocks, SourceFault, Whole};
 pub use decoding::decode_block;
 pub use expanding::Sound;
 pub use index::BlockIndex;
-pub use lengths::needed_from;
 use lengths::total;
+pub use lengths::{needed_from, values_in};
 use packed::first_bad_block;
 pub use packed::{block_count, block_of};
 pub use paged::Paged;
 pub use probing::{Steps, ValueLocation, locate_by, locate_value, look_up};
 pub use source::{Image, Source};
-use sparse::first_bad_entry;
+use sparse::{first_bad_entry, middle_of_span};
 use szg_code::Code;
 use szg_pairs::Dict;
 pub use watch::Watch;
@@ -220,17 +221,67 @@ pub fn check_index(sub: &Sub, size: u64) -> Result<(), SubFault>
 }
 
 /// Returns the number of values that block `n` of a subtable with `size` values needs. `before` is the number of values
-/// before the block.
+/// before the block. A missing length counts as 0.
 fn needed_in(sub: &Sub, size: u64, n: u32, before: u64) -> u64
-    requires head { IsShapedHead sub.now size }
-    requires there { IsSomeAnd (layout_of sub.now) (λ layout. n < layout.blocks) }
     requires before { IsSomeAnd (layout_of sub.now) (λ layout. before ≡ start layout.lengths n) }
     ensures { IsSomeAnd (layout_of sub.now) (λ layout. result ≡ needed layout.lengths size n) }
 {
     let Sub::Pairs { lengths, .. } = sub else {
         unreachable!()
     };
-    needed_from(lengths[n as usize], size, before)
+    let length = lengths.get(n as usize).copied();
+    needed_from(length.unwrap_or(0), size, before)
+}
+
+/// Checks the lengths and the sparse index as `check_index` does, for a subtable of which only the lengths of the blocks that
+/// begin below `size` are in memory. `before_last` is the number of values before the block of the last sparse entry.
+pub fn check_kept_index(sub: &Sub, size: u64, before_last: u64) -> Result<(), SubFault>
+    requires indexed { IsIndexed sub.now size }
+    requires few { IfSome (layout_of sub.now) (λ layout. length layout.lengths < 2 ^ 33) }
+    requires before { before_last < 2 ^ 62 }
+    requires size { size < 2 ^ 33 }
+    ensures entry { (k : ℕ) → result ≡ Err (SubFault.SparseEntry k) → IfSome (layout_of sub.now) (λ layout. k < length layout.sparse) }
+    ensures ok { OnOk result (IfSome (layout_of sub.now) (λ layout. (whole : List ℕ) → IsKeptOf layout size before_last whole → HasTotal (with_lengths whole layout) size × ((j : ℕ) → HasGoodEntry (with_lengths whole layout) j))) }
+    ensures fault { IfErr result (λ fault. IsIndexFault fault × IsSomeAnd (layout_of sub.now) (λ layout. (whole packed : List ℕ) → IsKeptOf layout size before_last whole → IsLayoutFault (with_lengths whole layout) packed size fault)) }
+{
+    let Sub::Pairs {
+        span_bits,
+        extra,
+        blocks,
+        sparse,
+        lengths,
+        ..
+    } = sub
+    else {
+        return Ok(());
+    };
+    let count = lengths.len().min(*blocks as usize);
+    if total(&lengths[..count]) < size {
+        return Err(SubFault::ShortTotal);
+    }
+    let Some(k) = first_bad_entry(sparse, lengths, *span_bits) else {
+        return Ok(());
+    };
+    if k as usize + 1 < sparse.len() {
+        return Err(SubFault::SparseEntry(k));
+    }
+    let entry = sparse[k as usize];
+    let all = *blocks as usize + usize::from(*extra);
+    let middle = middle_of_span(k, *span_bits);
+    if leads_past(entry, lengths.len(), all, before_last, middle) {
+        return Ok(());
+    }
+    Err(SubFault::SparseEntry(k))
+}
+
+/// Returns whether an entry leads to value `middle`, and its block is past the first `count` of `all` lengths. `before` values
+/// come before that block.
+fn leads_past(entry: Entry, count: usize, all: usize, before: u64, middle: u64) -> bool
+    requires { before < 2 ^ 62 }
+    ensures { IsTrue result ↔ ((count < entry.block) × (entry.block ≤ all) × (before + entry.offset ≡ middle)) }
+{
+    let block = entry.block as usize;
+    count < block && block <= all && before + u64::from(entry.offset) == middle
 }
 
 /// Checks that block `n`, whose bytes are `block`, decodes to at least as many values as it needs. Only the block's own
@@ -253,7 +304,8 @@ pub fn check_block(sub: &Sub, size: u64, n: u32, block: &[u8]) -> Result<(), Sub
     check_block_from(sub, size, n, before, block)
 }
 
-/// Checks block `n` as `check_block` does, for a caller that knows `before`, the number of values before block `n`.
+/// Checks block `n` as `check_block` does, for a caller that knows `before`, the number of values before block `n`. A missing
+/// length counts as 0.
 pub fn check_block_from(
     sub: &Sub,
     size: u64,
@@ -261,8 +313,7 @@ pub fn check_block_from(
     before: u64,
     block: &[u8],
 ) -> Result<(), SubFault>
-    requires head { IsShapedHead sub.now size }
-    requires there { IsSomeAnd (layout_of sub.now) (λ layout. n < layout.blocks) }
+    requires head { IsHeaded sub.now }
     requires before { IsSomeAnd (layout_of sub.now) (λ layout. before ≡ start layout.lengths n) }
     requires whole { IsSomeAnd (layout_of sub.now) (λ layout. length block.now ≡ 2 ^ layout.block_bits) }
     ensures ok { OnOk result (IsSomeAnd (layout_of sub.now) (λ layout. SpellsNeeded layout size n block.now)) }

@@ -1,9 +1,7 @@
 -- The views of the crate's types.
-use Rattle.std.specs.Prelude.{◌≡◌, ℕ, ◌≤◌, List, length, map, IfSome}
+use Rattle.std.specs.Prelude.{◌≡◌, ℕ, List, map}
 use Rattle.szg_block.specs.declared.Sub.{Sub}
 use Rattle.szg_block.specs.declared.Sub.TheVariants as sub_variants
-use Rattle.szg_block.specs.Subtable.{layout_of, flags_of, HasFlagOf}
-use Rattle.szg_block.specs.Sound.{entry_count}
 use Rattle.szg_block.specs.Layout.{SparseEntry}
 use Rattle.szg_block.specs.declared.Entry.{Entry}
 use Rattle.szg_file.specs.declared.table.PartBytes.{PartBytes}
@@ -39,17 +37,6 @@ map_of (map_variants.Wide lists) = held.wide (map (λ list. list.items) lists)
 -- the table's file
 abbrev pub file_bytes : Shown → List ℕ
 file_bytes t = file_of t.contents t.filled
-
--- ---- subtables while they are read
-
--- the numbers of the header are in their ranges, and its code and its dictionary have the same number of symbols
-abbrev pub IsHeaded : Sub → Type 0
-IsHeaded sub = HasFlagOf (flags_of sub) (layout_of sub) × IfSome (layout_of sub) (λ layout.
-    (layout.block_bits ≤ 18) × (1 ≤ layout.span_bits) × (layout.span_bits ≤ 31) × (layout.code.symbols ≡ length layout.entries))
-
--- likewise, and its sparse index has one entry per span, of which the last may be partial
-abbrev pub IsIndexed : Sub → ℕ → Type 0
-IsIndexed sub size = IsHeaded sub × IfSome (layout_of sub) (λ layout. length layout.sparse ≡ entry_count layout.span_bits size)
 
 -- ---- lists of numbers, as one field
 

@@ -35,7 +35,8 @@ pub struct Begun {
 
 impl Model for Begun {
     ghost use Rattle.szg_file.specs.File.{Begun};
-    ghost use Rattle.szg_file.specs.Held.{subtable_of, IsHeaded};
+    ghost use Rattle.szg_block.specs.Subtable.{IsHeaded};
+    ghost use Rattle.szg_file.specs.Held.{subtable_of};
 
     ghost Value = { Begun };
 
@@ -55,7 +56,8 @@ pub struct Indexed {
 impl Model for Indexed {
     ghost use Rattle.szg_file.specs.File.{Begun};
     ghost use Rattle.std.specs.Prelude.{◌<◌, ◌^◌};
-    ghost use Rattle.szg_file.specs.Held.{subtable_of, IsIndexed};
+    ghost use Rattle.szg_block.specs.Subtable.{IsIndexed};
+    ghost use Rattle.szg_file.specs.Held.{subtable_of};
 
     ghost Value = { Begun };
 

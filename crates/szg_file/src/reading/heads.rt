@@ -1,9 +1,10 @@
 ghost use Rattle.std.specs.Prelude.{◌≡◌, ◌≢◌, ◌+◌, ◌-◌, ◌*◌, ◌≤◌, ◌<◌, ◌^◌, length, map, nat_lt, nat_le, ◌&&◌, false, OnOk, IfOk};
 ghost use Rattle.szg_code.specs.Acceptance.{IsCode};
+ghost use Rattle.szg_block.specs.Subtable.{IsHeaded};
 ghost use Rattle.szg_file.specs.Contents.{has_bit};
 ghost use Rattle.szg_file.specs.File.{each, head_field, packed_head, byte_where, lowest_list, code_with, dictionary, begun};
 ghost use Rattle.szg_file.specs.HeadPieces.{sizes_field, Refuses, entries_refusal};
-ghost use Rattle.szg_file.specs.Held.{subtable_of, IsHeaded};
+ghost use Rattle.szg_file.specs.Held.{subtable_of};
 ghost use Rattle.szg_file.specs.Reading.{Reading};
 ghost use Rattle.szg_file.specs.Grown.{HasCounted, begun_lengths};
 ghost use Rattle.szg_file.specs.WholeRead.{sub_lengths};

@@ -1,7 +1,7 @@
 use Rattle.std.proofs.Common.{refl, sym, arith}
 use Rattle.szg_block.specs.Subtable.{layout_of, layout_from}
 use Rattle.szg_block.proofs.Parts.{needed_spelled, spelled_needed}
-use Rattle.szg_block.proofs.BlockValueLaws.{held_at, held_before, held_there, held_within, spelled_at}
+use Rattle.szg_block.proofs.BlockValueLaws.{held_at, held_before, held_within, spelled_at}
 use Rattle.szg_block.proofs.block_value.checked_value.Goals as goal
 
 pub overflow_sub-i : goal.overflow_sub-i
@@ -9,15 +9,12 @@ overflow_sub-i c =
     held_within c.args.size c.args.i c.args.location.block c.args.location.item (layout_of c.args.sub.now)
     (held_at c.args.sub.now c.args.size c.args.i c.args.location.block c.args.location.item c.requires.head c.requires.index c.requires.below c.requires.at_block c.requires.at_item)
 
-pub needed_in-needed-requires-clause-there : goal.needed_in-needed-requires-clause-there
-needed_in-needed-requires-clause-there c =
-    held_there c.args.size c.args.i c.args.location.block c.args.location.item (layout_of c.args.sub.now)
-    (held_at c.args.sub.now c.args.size c.args.i c.args.location.block c.args.location.item c.requires.head c.requires.index c.requires.below c.requires.at_block c.requires.at_item)
-
-pub needed_in-needed-requires-clause-before : goal.needed_in-needed-requires-clause-before
-needed_in-needed-requires-clause-before c =
-    held_before c.args.size c.args.i c.args.location.block c.args.location.item (layout_of c.args.sub.now)
-    (held_at c.args.sub.now c.args.size c.args.i c.args.location.block c.args.location.item c.requires.head c.requires.index c.requires.below c.requires.at_block c.requires.at_item)
+pub needed_in-needed-requires : goal.needed_in-needed-requires
+needed_in-needed-requires c =
+    record {
+      before = held_before c.args.size c.args.i c.args.location.block c.args.location.item (layout_of c.args.sub.now)
+          (held_at c.args.sub.now c.args.size c.args.i c.args.location.block c.args.location.item c.requires.head c.requires.index c.requires.below c.requires.at_block c.requires.at_item);
+    }
 
 pub find_verified-requires-clause-within : goal.find_verified-requires-clause-within
 find_verified-requires-clause-within c =

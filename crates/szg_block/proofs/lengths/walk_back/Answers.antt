@@ -1,4 +1,4 @@
-use Rattle.std.proofs.Common.{◌≡◌, ◌+◌, ◌≤◌, ◌<◌, length, ap, sym, ◌∙◌, arith}
+use Rattle.std.proofs.Common.{◌≡◌, ◌+◌, ◌≤◌, length, ap, sym, ◌∙◌, arith}
 use Rattle.szg_block.specs.Block.{start}
 use Rattle.szg_block.proofs.Values.{start-zero}
 use Rattle.szg_block.proofs.Walking.{none_past, start-after}

@@ -1,5 +1,6 @@
 use Rattle.std.proofs.Common.{ap, ◌∙◌}
 use Rattle.szg_block.specs.Subtable.{layout_of}
+use Rattle.szg_block.proofs.KeptLayouts.{sound_is_locatable_over}
 use Rattle.szg_block.proofs.ByEntry.{is_value}
 use Rattle.szg_block.proofs.probing.find_value.Goals as goal
 
@@ -13,3 +14,6 @@ returns-clause-value g c =
     let v = is_value _ _ (ap layout_of c.in-Pairs.is) _ _ _ c.requires.head c.symbols.ensures.accepted c.requires.all c.requires.whole c.requires.sound c.args.i c.requires.below _ _ c.in-Some.ensures.block c.in-Some.ensures.item in
     let r = rw c.in_ok-block.ensures.block at c.value_at.ensures in
     rw c.in-Pairs.is (v.same ∙ r)
+
+pub locate_value-requires-clause-index : goal.locate_value-requires-clause-index
+locate_value-requires-clause-index g c = sound_is_locatable_over _ _ _ c.requires.head c.requires.sound

@@ -1,4 +1,4 @@
-use Rattle.std.proofs.Common.{◌≡◌, ◌+◌, ◌-◌, ◌∙◌, arith, sym}
+use Rattle.std.proofs.Common.{◌∙◌, arith, sym}
 use Rattle.szg_block.proofs.ByEntry.{entry_somewhere, found_in, found_somewhere, good_entry}
 use Rattle.szg_block.proofs.probing.locate_by.Goals as goal
 

@@ -1,5 +1,6 @@
 use Rattle.std.proofs.Common.{ap, ◌∙◌}
 use Rattle.szg_block.specs.Subtable.{layout_of}
+use Rattle.szg_block.proofs.KeptLayouts.{sound_is_locatable_over}
 use Rattle.szg_block.proofs.ByEntry.{is_value, steps}
 use Rattle.szg_block.proofs.probing.look_up.Goals as goal
 
@@ -19,3 +20,6 @@ returns-clause-steps g c =
     let w = rw c.in_ok-block.ensures.block at c.find_in_block-found.ensures.words in
     let q = rw c.in_ok-block.ensures.block at c.find_in_block-found.ensures.pairs in
     rw c.in-Pairs.is (steps _ _ (ap layout_of c.in-Pairs.is) _ _ _ c.requires.head c.symbols.ensures.accepted c.requires.all c.requires.whole c.requires.sound c.args.i c.requires.below _ _ c.in-Some.ensures.block c.in-Some.ensures.item _ _ _ c.in-Some.ensures.moves w (c.from.ensures ∙ q))
+
+pub locate_value-requires-clause-index : goal.locate_value-requires-clause-index
+locate_value-requires-clause-index g c = sound_is_locatable_over _ _ _ c.requires.head c.requires.sound

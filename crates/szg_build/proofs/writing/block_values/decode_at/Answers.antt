@@ -5,11 +5,15 @@ use Rattle.szg_block.specs.Block.{block_at, block_values, needed}
 use Rattle.szg_block.specs.Expansion.{needed_values}
 use Rattle.szg_block.specs.Layout.{Layout}
 use Rattle.szg_block.specs.Subtable.{layout_from}
+use Rattle.szg_block.proofs.KeptLayouts.{shaped_is_headed}
 use Rattle.szg_block.proofs.Reading.{block_whole}
 use Rattle.szg_block.proofs.Values.{start-more}
 use Rattle.szg_build.specs.BlockValues.{values_on}
 use Rattle.szg_build.proofs.Writers.StoredLaws.{values_next}
 use Rattle.szg_build.proofs.writing.block_values.decode_at.Goals as goal
+
+pub decode_block-requires-clause-head : goal.decode_block-requires-clause-head
+decode_block-requires-clause-head c = shaped_is_headed c.args.sub.now c.args.size c.requires.at.shaped.0
 
 pub decode_block-requires-clause-spelled : goal.decode_block-requires-clause-spelled
 decode_block-requires-clause-spelled c =

@@ -7,6 +7,7 @@ use Rattle.szg_block.specs.Block.{start}
 use Rattle.szg_block.proofs.Values.{start-step}
 use Rattle.szg_file.specs.Format.{means}
 use Rattle.szg_block.specs.Subtable.{layout_of}
+use Rattle.szg_block.proofs.KeptLayouts.{shaped_is_headed}
 use Rattle.szg_file.proofs.Readers.BlockReads.{reads_block, reads_block_refused, reads_block_stopped, reads_blocks_more, reads_blocks_stopped, tail_of}
 use Rattle.szg_file.proofs.Readers.ReadingLaws.{reads_nothing}
 use Rattle.szg_file.proofs.reading.blocks.take_packed.Goals as goal
@@ -64,3 +65,6 @@ each_block-preserved g c =
       growth = omega (arith, c.each_block.invariant.growth, c.in_ok-take_more.ensures.growth, c.in_ok-take_more.ensures.place);
       grown = omega (arith, c.each_block.invariant.grown, c.in_ok-take_more.ensures.grown);
     }
+
+pub check_block_from-requires-clause-head : goal.check_block_from-requires-clause-head
+check_block_from-requires-clause-head g c = shaped_is_headed c.args.sub.now c.args.size c.requires.shaped
