@@ -8,6 +8,7 @@ pub mod GoodHeads
 pub mod GoodLaws
 pub mod GoodWhole
 pub mod HeadLaws
+pub mod KeptLaws
 pub mod RefusalLaws
 pub mod TableLaws
 pub mod UnreadLaws

@@ -4,6 +4,10 @@ pub mod Grown
 pub mod HeadReads
 pub mod IndexChecks
 pub mod ItemsRead
+pub mod KeptIndexes
+pub mod KeptOutlines
+pub mod KeptReads
+pub mod KeptRows
 pub mod LackingReads
 pub mod LoopReads
 pub mod MapReads

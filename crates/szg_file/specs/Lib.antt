@@ -35,3 +35,4 @@ pub mod Index
 pub mod FrontInput
 pub mod Streaming
 pub mod InPlace
+pub mod Kept

@@ -1,6 +1,6 @@
 //! Subtables while they are read: first with their headers, then with their sparse indexes, then with their block
 //! lengths.
-ghost use Rattle.std.specs.Prelude.{ℕ, ◌≡◌, ◌<◌, ◌^◌};
+ghost use Rattle.std.specs.Prelude.{ℕ, ◌≡◌, ◌*◌, ◌≤◌, ◌<◌, ◌^◌, length};
 
 use std::marker::Model;
 use szg_block::Sub;
@@ -66,7 +66,7 @@ impl Model for Indexed {
     ghost invariant = { λ begun. IsIndexed begun.sub begun.slot.size × (begun.index < 2 ^ 61) };
 }
 
-/// A subtable with everything but its blocks.
+/// A subtable with everything but its blocks. The lengths of blocks that no value needs may be missing.
 #[derive(Drop)]
 pub struct Measured {
     pub slot: Slot,
@@ -76,12 +76,29 @@ pub struct Measured {
 
 impl Model for Measured {
     ghost use Rattle.szg_file.specs.File.{Begun};
+    ghost use Rattle.szg_block.specs.Subtable.{IsIndexed};
     ghost use Rattle.szg_file.specs.Held.{subtable_of};
-    ghost use Rattle.szg_block.specs.Subtable.{IsShapedHead};
 
     ghost Value = { Begun };
 
     ghost view = { λ begun. record { slot = begun.slot; subtable = subtable_of begun.sub; index = begun.index } };
 
-    ghost invariant = { λ begun. IsShapedHead begun.sub begun.slot.size };
+    ghost invariant = { λ begun. IsIndexed begun.sub begun.slot.size };
+}
+
+/// The state of a reader of block lengths.
+#[derive(Drop)]
+pub struct KeptLengths {
+    /// The lengths of the blocks that begin below the subtable's size.
+    pub lengths: Vec<u16>,
+    /// The number of values of these blocks.
+    pub values: u64,
+    /// The number of lengths that were read.
+    pub seen: u64,
+    /// The number of values before the block of the last sparse entry, as far as lengths were read.
+    pub before_last: u64,
+    // a length stands for at most 65,536 values
+    pub ghost values_few: { values ≤ 65536 * seen },
+    pub ghost before_few: { before_last ≤ 65536 * seen },
+    pub ghost lengths_few: { length lengths.items ≤ seen },
 }

@@ -165,6 +165,7 @@ pub fn open<S: Source + Drop>(
         alloc,
         &material,
         kind,
+        true,
         &mut buffer,
         &mut input,
         &mut state,

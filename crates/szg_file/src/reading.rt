@@ -3,6 +3,7 @@ pub(crate) mod dropping;
 mod heads;
 pub(crate) mod in_memory;
 mod index;
+mod kept;
 mod maps;
 pub(crate) mod outline;
 pub(crate) mod parts;
@@ -133,7 +134,7 @@ fn read_pieces<R: Input>(
         parts,
         maps,
         measured,
-    } = read_front(alloc, material, kind, input, state)?;
+    } = read_front(alloc, material, kind, true, input, state)?;
     let subs = read_blocks(alloc, measured, input, state)?;
     let last = read_ending(alloc, input, state)?;
     Ok(Pieces {

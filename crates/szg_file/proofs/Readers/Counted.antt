@@ -1,13 +1,16 @@
 -- The lists of a table that was read are at most as long as the growth that was counted, which is within the bound
 -- of the reader state.
-use Rattle.std.proofs.Common.{◌≡◌, ℕ, ◌+◌, ◌*◌, ◌≤◌, List, [], length, option_map, ap, arith}
+use Rattle.std.proofs.Common.{◌≡◌, ℕ, ◌+◌, ◌*◌, ◌≤◌, List, [], length, option_map, ap, arith, Ok, Err, Vec, Global}
+use Rattle.std.specs.Prelude.{IfOk, Result}
 use Rattle.std.proofs.lemmas.List.{length-map}
 use Rattle.szg_values.specs.declared.Kind.{Kind}
 use Rattle.szg_values.specs.Material.{Sides}
+use Rattle.szg_file.specs.declared.begun.Measured.{Measured}
+use Rattle.szg_file.specs.declared.fault.ReadFault.{ReadFault}
 use Rattle.szg_file.specs.declared.reading.state.ReaderState.{ReaderState}
 use Rattle.szg_file.specs.declared.reading.Pieces.{Pieces}
 use Rattle.szg_file.specs.FilePieces.{contents_of}
-use Rattle.szg_file.specs.Grown.{HasCounted, pieces_lengths}
+use Rattle.szg_file.specs.Grown.{HasCounted, begun_lengths, pieces_lengths}
 use Rattle.szg_file.specs.Held.{Shown, file_bytes, part_of, subtable_of, map_of}
 use Rattle.szg_file.specs.Grown.{part_length}
 use Rattle.szg_file.specs.WholeRead.{sub_lengths, map_lengths, list_lengths}
@@ -32,3 +35,9 @@ lists_were_counted m k p first last bytes place growth fill far whole counted =
     let long : length bytes ≡ length (file_bytes (shown_by m k p last)) = ap length whole in
     let bound = last.bound in
     omega (arith, counted, parts, subs, maps, part_count, sub_count, map_count, place, growth, none, far, long, bound)
+
+-- lists of subtables that were read one after another
+pub lists_counted : (result : Result (Vec Measured Global) ReadFault) (o m n : ReaderState) (before between count : ℕ) → HasCounted o m before (count + between) →
+    IfOk result (λ list. HasCounted m n between (length list.items + begun_lengths list.items)) → IfOk result (λ list. length list.items ≡ count) → IfOk result (λ list. HasCounted o n before (2 * length list.items + begun_lengths list.items))
+lists_counted (Ok list) o m n before between count first second many = omega (arith, first, second, many)
+lists_counted (Err fault) o m n before between count first second many = tt

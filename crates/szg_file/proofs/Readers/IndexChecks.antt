@@ -22,7 +22,7 @@ use Rattle.szg_file.specs.declared.fault.Reason.TheVariants as reason
 use Rattle.szg_file.specs.declared.fault.ReadFault.{ReadFault}
 use Rattle.szg_file.specs.declared.fault.ReadFault.TheVariants.{Refused}
 use Rattle.szg_file.specs.Format.{Format, means, good, truncated, verdict, ◌>>=◌, ◌>>◌}
-use Rattle.szg_file.specs.Contents.{Slot, Head, pairs, layout_of, items}
+use Rattle.szg_file.specs.Contents.{Slot, Head, pairs, layout_of, items, number_of}
 use Rattle.szg_file.specs.File.{Begun, rows_field, demand, none_fails, index_check, lengths_of}
 use Rattle.szg_file.specs.Held.{numbers_field}
 use Rattle.szg_file.specs.Reading.{Reading, Checks}
@@ -113,6 +113,10 @@ counted {B = B} f size count place bytes a filled rest e =
           sym (ap length same) ∙ length-map rows f ∙ items-count size count (take (size * count) bytes)
     ]
 
+-- so many numbers were read
+pub numbers_many : {X R : Type 0} (count : ℕ) (view : X → List ℕ) (v : X) {o n : ReaderState} {dev : Ghosts R} {i k : R} → Reading (numbers_field count) view o n dev i k (Ok v) → length (view v) ≡ count
+numbers_many count view v {o = o} h = counted number_of 2 count o.place h.bytes (view v) h.answer.0.filled [] h.answer.0.whole
+
 -- ---- block lengths and the checks after them
 
 -- the subtable with its block lengths, or the refusal by a check
@@ -121,7 +125,7 @@ measured_or None found = Ok found
 measured_or (Some refusal) found = Err (Refused refusal.0 refusal.1)
 
 -- the checks after block lengths that begin at offset `place`
-abbrev following_lengths : Slot → ℕ → Head → List SparseEntry → List ℕ → ℕ → List ℕ → Format Begun
+abbrev pub following_lengths : Slot → ℕ → Head → List SparseEntry → List ℕ → ℕ → List ℕ → Format Begun
 following_lengths slot index head sparse packed place numbers =
     index_check place index (layout_of head sparse numbers) slot.size >> means (record { slot = slot; subtable = pairs head sparse numbers packed; index = index })
 

@@ -9,11 +9,9 @@ use Rattle.szg_file.specs.declared.fault.ReadFault.TheVariants.{Refused, Device,
 use Rattle.szg_file.specs.Format.{Format, means, field, Verdict, verdict, after_fill, ◌>>=◌}
 use Rattle.szg_values.specs.declared.Kind.{Kind}
 use Rattle.szg_values.specs.Material.{Sides}
-use Rattle.szg_file.specs.declared.reading.read_front.FrontRead.{FrontRead}
 use Rattle.szg_file.specs.Contents.{Contents, Subtable}
 use Rattle.szg_file.specs.File.{each, blocks_field, filled_to, file}
 use Rattle.szg_file.specs.FilePieces.{ending_field}
-use Rattle.szg_file.specs.FrontRead.{front_read}
 use Rattle.szg_file.specs.Reading.{Reading, Lacking, IsCut}
 use Rattle.szg_file.specs.Unread.{after_front, front_field, unread_table}
 use Rattle.szg_file.specs.Unread as front
@@ -122,34 +120,34 @@ stops_within f g view view' fault h = record {
 
 -- ---- a whole file
 
-pub front_stops : {Y R : Type 0} (material : Sides) (kind : Kind) (view : Y → Contents) {f m : ReaderState} {dev : Ghosts R} {i j : R} (fault : ReadFault) →
-    Reading (front_field material kind) front_read f m dev i j (Err fault) → Stops (file material kind) view f m dev i j fault
-front_stops material kind view fault h =
+pub front_stops : {X Y R : Type 0} (material : Sides) (kind : Kind) (seen : X → front.FrontRead) (view : Y → Contents) {f m : ReaderState} {dev : Ghosts R} {i j : R} (fault : ReadFault) →
+    Reading (front_field material kind) seen f m dev i j (Err fault) → Stops (file material kind) view f m dev i j fault
+front_stops material kind seen view fault h =
     stops_equal (front_field material kind >>= after_front blocks_field material kind) (file material kind) view fault (front_then blocks_field material kind)
-    (stops_first (front_field material kind) (after_front blocks_field material kind) front_read view fault (after_front_needed material kind) h)
+    (stops_first (front_field material kind) (after_front blocks_field material kind) seen view fault (after_front_needed material kind) h)
 
 -- after a front that was read
-module _ {X Y R : Type 0} (material : Sides) (kind : Kind) (r : FrontRead) (view : X → List Subtable) (view' : Y → Contents) {f m n : ReaderState} {dev : Ghosts R} {i j k : R}
-    (first : Reading (front_field material kind) front_read f m dev i j (Ok r)) where
-  pub blocks_stop : (fault : ReadFault) → Reading (each blocks_field r.measured.items) view m n dev j k (Err fault) → Stops (file material kind) view' f n dev i k fault
+module _ {V X Y R : Type 0} (material : Sides) (kind : Kind) (r : V) (seen : V → front.FrontRead) (view : X → List Subtable) (view' : Y → Contents) {f m n : ReaderState} {dev : Ghosts R} {i j k : R}
+    (first : Reading (front_field material kind) seen f m dev i j (Ok r)) where
+  pub blocks_stop : (fault : ReadFault) → Reading (each blocks_field (seen r).measured) view m n dev j k (Err fault) → Stops (file material kind) view' f n dev i k fault
   blocks_stop fault h =
       stops_equal (front_field material kind >>= after_front blocks_field material kind) (file material kind) view' fault (front_then blocks_field material kind)
-      (stops_then (front_field material kind) (after_front blocks_field material kind) front_read view' r fault first
-      (stops_first (each blocks_field r.measured.items) (after_blocks material kind (front_read r)) view view' fault (after_blocks_needed material kind (front_read r)) h))
+      (stops_then (front_field material kind) (after_front blocks_field material kind) seen view' r fault first
+      (stops_first (each blocks_field (seen r).measured) (after_blocks material kind (seen r)) view view' fault (after_blocks_needed material kind (seen r)) h))
 
-  pub ending_stops : {z : ReaderState} {l : R} (v : X) (fault : ReadFault) → Reading (each blocks_field r.measured.items) view m n dev j k (Ok v) →
+  pub ending_stops : {z : ReaderState} {l : R} (v : X) (fault : ReadFault) → Reading (each blocks_field (seen r).measured) view m n dev j k (Ok v) →
       Stops ending_field (λ (last : List ℕ). last) n z dev k l fault → Stops (file material kind) view' f z dev i l fault
   ending_stops v fault h ending =
       stops_equal (front_field material kind >>= after_front blocks_field material kind) (file material kind) view' fault (front_then blocks_field material kind)
-      (stops_then (front_field material kind) (after_front blocks_field material kind) front_read view' r fault first
-      (stops_then (each blocks_field r.measured.items) (after_blocks material kind (front_read r)) view view' v fault h
-      (stops_within ending_field (λ last. means (unread_table material kind (front_read r) (view v) last)) (λ (last : List ℕ). last) view' fault ending)))
+      (stops_then (front_field material kind) (after_front blocks_field material kind) seen view' r fault first
+      (stops_then (each blocks_field (seen r).measured) (after_blocks material kind (seen r)) view view' v fault h
+      (stops_within ending_field (λ last. means (unread_table material kind (seen r) (view v) last)) (λ (last : List ℕ). last) view' fault ending)))
 
-  pub file_read : {z : ReaderState} {l : R} (v : X) (last : List ℕ) (w : Y) → view' w ≡ unread_table material kind (front_read r) (view v) last →
-      Reading (each blocks_field r.measured.items) view m n dev j k (Ok v) → Reading ending_field (λ (last : List ℕ). last) n z dev k l (Ok last) →
+  pub file_read : {z : ReaderState} {l : R} (v : X) (last : List ℕ) (w : Y) → view' w ≡ unread_table material kind (seen r) (view v) last →
+      Reading (each blocks_field (seen r).measured) view m n dev j k (Ok v) → Reading ending_field (λ (last : List ℕ). last) n z dev k l (Ok last) →
       Reading (file material kind) view' f z dev i l (Ok w)
   file_read v last w same h ending =
       reads_equal (front_field material kind >>= after_front blocks_field material kind) (file material kind) view' (Ok w) (front_then blocks_field material kind)
-      (reads_then (front_field material kind) (after_front blocks_field material kind) front_read view' r first
-      (reads_then (each blocks_field r.measured.items) (after_blocks material kind (front_read r)) view view' v h
-      (reads_made ending_field (unread_table material kind (front_read r) (view v)) (λ (last : List ℕ). last) view' last w same ending)))
+      (reads_then (front_field material kind) (after_front blocks_field material kind) seen view' r first
+      (reads_then (each blocks_field (seen r).measured) (after_blocks material kind (seen r)) view view' v h
+      (reads_made ending_field (unread_table material kind (seen r) (view v)) (λ (last : List ℕ). last) view' last w same ending)))

@@ -154,7 +154,7 @@ pub fn open_front<R: Input>(
     ensures quiet { (IsErrOf result ReadFault.Device → ⊥) → R.failures input.new ≡ R.failures input.old }
 {
     let mut state = ReaderState::new(alloc);
-    let read = read_front(alloc, &material, kind, input, &mut state)?;
+    let read = read_front(alloc, &material, kind, true, input, &mut state)?;
     let place = state.place;
     if size < place {
         return Err(ReadFault::Refused {

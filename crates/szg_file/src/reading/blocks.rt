@@ -1,7 +1,7 @@
 ghost use Rattle.std.specs.Prelude.{◌≡◌, ◌+◌, ◌*◌, ◌≤◌, ◌<◌, ◌^◌, length, map, take, drop, OnOk, IfSome, IfNone, IsSomeAnd, IsTrue, ◌↔◌, None, IfOk};
 ghost use Rattle.szg_code.specs.Acceptance.{IsCode};
 ghost use Rattle.szg_block.specs.Block.{start};
-ghost use Rattle.szg_block.specs.Subtable.{layout_of, IsShapedHead};
+ghost use Rattle.szg_block.specs.Subtable.{layout_of, IsHeaded};
 ghost use Rattle.szg_file.specs.File.{each, block_field, blocks_from, blocks_field};
 ghost use Rattle.szg_file.specs.Held.{subtable_of};
 ghost use Rattle.szg_file.specs.Reading.{Reading};
@@ -14,7 +14,7 @@ use crate::reading::state::{ReaderState, append};
 use crate::reading::taking::{take_fill, take_more};
 use crate::typed::code_fits;
 use std::alloc::Global;
-use szg_block::{Sub, block_count, check_block_from};
+use szg_block::{Sub, block_count, check_block_from, values_in};
 use szg_io::Input;
 
 /// Reads the blocks of each subtable that is not constant.
@@ -87,7 +87,7 @@ fn take_packed<R: Input>(
 ) -> Result<Vec<u8>, ReadFault>
     requires place { state.old.place < 2 ^ 61 }
     requires growth_bound { state.old.growth ≤ 2 * state.old.place + 2 ^ 15 }
-    requires shaped { IsShapedHead sub.now size }
+    requires headed { IsHeaded sub.now }
     ensures blocks { IfSome (layout_of sub.now) (λ layout. Reading (blocks_from layout size 0 layout.blocks) (λ packed. packed.items) state.old state.new R.Input input.old input.new result) }
     ensures place { OnOk result (state.new.place ≤ state.old.place + 2 ^ 50) }
     ensures growth { OnOk result (state.new.growth + 2 * state.old.place ≤ state.old.growth + 2 * state.new.place) }
@@ -115,7 +115,7 @@ fn take_packed<R: Input>(
                 reason: Reason::Word,
             });
         };
-        before += lengths[n as usize] as u64 + 1;
+        before += values_in(lengths, n);
     }
     Ok(packed)
 }

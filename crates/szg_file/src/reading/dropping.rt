@@ -4,7 +4,7 @@ ghost use Rattle.std.specs.List.{AllByRecursion};
 ghost use Rattle.szg_code.specs.Acceptance.{IsCode};
 ghost use Rattle.szg_block.specs.Block.{start};
 ghost use Rattle.szg_block.specs.Sound.{SpellsNeeded};
-ghost use Rattle.szg_block.specs.Subtable.{layout_of, IsShapedHead};
+ghost use Rattle.szg_block.specs.Subtable.{layout_of, IsHeaded};
 ghost use Rattle.szg_file.specs.File.{each, block_field, blocks_from, blocks_field};
 ghost use Rattle.szg_file.specs.Placed.{since, whole_sub, Fits};
 ghost use Rattle.szg_file.specs.Reading.{Reading};
@@ -127,9 +127,8 @@ pub(crate) fn pass_block<R: Input>(
     requires place { state.old.place < 2 ^ 61 + 2 ^ 50 }
     requires room { IfSome (layout_of sub.now) (λ layout. length buffer.old ≡ 2 ^ layout.block_bits) }
     requires short { length buffer.old ≤ 2 ^ 18 }
-    requires shaped { IsShapedHead sub.now size }
+    requires headed { IsHeaded sub.now }
     requires code { IfSome (layout_of sub.now) (λ layout. IsCode layout.code) }
-    requires there { IsSomeAnd (layout_of sub.now) (λ layout. n < layout.blocks) }
     requires before { IsSomeAnd (layout_of sub.now) (λ layout. before ≡ start layout.lengths n) }
     ensures block { IfSome (layout_of sub.now) (λ layout. Reading (block_field layout size n) (λ _. since (R.moved input.old) (R.moved input.new)) state.old state.new R.Input input.old input.new result) }
     ensures place { OnOk result (state.new.place ≡ state.old.place + length buffer.old) }

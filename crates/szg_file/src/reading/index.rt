@@ -1,7 +1,9 @@
-ghost use Rattle.std.specs.Prelude.{ℕ, ◌≡◌, ◌+◌, ◌*◌, ◌≤◌, ◌<◌, ◌^◌, length, map, OnOk, IfOk, IfSome, IfNone, None};
-ghost use Rattle.szg_block.specs.Subtable.{layout_of, IsShapedHead};
+ghost use Rattle.std.specs.Prelude.{ℕ, suc, ◌≡◌, ◌+◌, ◌*◌, ◌≤◌, ◌<◌, ◌^◌, List, length, map, slice_get, OnOk, IfOk, IfSome, IfNone, None};
+ghost use Rattle.szg_block.specs.Kept.{with_lengths, IsKeptOf};
+ghost use Rattle.szg_block.specs.Subtable.{layout_of, IsIndexed, IsShapedHead};
 ghost use Rattle.szg_file.specs.File.{each, sparse_field, lengths_field, index_check};
 ghost use Rattle.szg_file.specs.FilePieces.{measured_field};
+ghost use Rattle.szg_file.specs.Kept.{kept_field, kept_measured, ReadingOf};
 ghost use Rattle.szg_file.specs.Reading.{Reading, Checks};
 ghost use Rattle.szg_file.specs.Grown.{HasCounted, begun_lengths};
 ghost use Rattle.szg_file.specs.WholeRead.{sub_lengths};
@@ -11,10 +13,11 @@ ghost use Rattle.std.specs.List.{sum_by};
 
 use crate::begun::{Begun, Indexed, Measured};
 use crate::fault::{ReadFault, Reason};
+use crate::reading::kept::take_kept;
 use crate::reading::state::{ReaderState, append};
 use crate::reading::taking::{take_numbers, take_sparse};
 use std::alloc::Global;
-use szg_block::{Sub, SubFault, check_index, entry_count};
+use szg_block::{Entry, Sub, SubFault, check_index, check_kept_index, entry_count};
 use szg_io::Input;
 
 /// Passes each item of a list, in order, to `take`, which reads more of it. Returns the results.
@@ -76,17 +79,19 @@ fn read_index<R: Input>(
     Ok(Indexed { slot, sub, index })
 }
 
-/// Reads the sparse index of each subtable that is not constant, and then the block lengths of each.
+/// Reads the sparse index of each subtable that is not constant, and then the block lengths of each. Keeps all of these if
+/// `all`, and otherwise those of the blocks that begin below the number of positions.
 pub(crate) fn read_lengths<R: Input>(
     alloc: Global,
     list: Vec<Begun>,
+    all: bool,
     input: &mut R,
     state: &mut ReaderState,
 ) -> Result<Vec<Measured>, ReadFault>
     requires place { state.old.place < 2 ^ 59 }
     requires few { length list.items ≤ 8 }
     requires growth_bound { state.old.growth ≤ 2 * state.old.place + 2 ^ 13 }
-    ensures lengths { Reading (measured_field list.items) (λ measured. measured.items) state.old state.new R.Input input.old input.new result }
+    ensures lengths { ReadingOf (measured_field list.items) (λ whole kept. kept.items ≡ kept_measured all whole) state.old state.new R.Input input.old input.new result }
     ensures slots { IfOk result (λ measured. map (λ measured. measured.slot) measured.items ≡ map (λ begun. begun.slot) list.items) }
     ensures count { IfOk result (λ measured. length measured.items ≡ length list.items) }
     ensures place { OnOk result (state.new.place ≤ state.old.place + 2 ^ 41) }
@@ -94,8 +99,11 @@ pub(crate) fn read_lengths<R: Input>(
     ensures grown { IfOk result (λ measured. HasCounted state.old state.new (begun_lengths list.items) (2 * length measured.items + begun_lengths measured.items)) }
 {
     let indexed = take_each(alloc, list, read_index, input, state)?;
-    let measured = take_each(alloc, indexed, read_measured, input, state)?;
-    Ok(measured)
+    if all {
+        take_each(alloc, indexed, read_measured, input, state)
+    } else {
+        take_each(alloc, indexed, read_kept, input, state)
+    }
 }
 
 /// Reads one subtable's block lengths into it, and checks them and the sparse index. A constant subtable has none.
@@ -134,6 +142,57 @@ fn read_measured<R: Input>(
     Ok(Measured { slot, sub, index })
 }
 
+/// Reads one subtable's block lengths, and checks them and the sparse index, as `read_measured` does. Keeps those of the
+/// blocks that begin below the number of positions.
+fn read_kept<R: Input>(
+    alloc: Global,
+    indexed: Indexed,
+    input: &mut R,
+    state: &mut ReaderState,
+) -> Result<Measured, ReadFault>
+    requires place { state.old.place < 2 ^ 60 + 2 ^ 40 }
+    requires growth_bound { state.old.growth ≤ 2 * state.old.place + 2 ^ 15 }
+    ensures lengths { Reading (kept_field indexed) (λ measured. measured) state.old state.new R.Input input.old input.new result }
+    ensures place { OnOk result (state.new.place ≤ state.old.place + 2 ^ 36) }
+    ensures growth { OnOk result (state.new.growth + 2 * state.old.place ≤ state.old.growth + 2 * state.new.place) }
+    ensures grown { IfOk result (λ measured. HasCounted state.old state.new (sub_lengths indexed.subtable) (sub_lengths measured.subtable)) }
+{
+    let Indexed {
+        slot,
+        mut sub,
+        index,
+    } = indexed;
+    let place = state.place;
+    let mut before_last = 0;
+    if let Sub::Pairs {
+        extra,
+        blocks,
+        sparse,
+        lengths,
+        ..
+    } = &mut sub
+    {
+        let count = *blocks as u64 + *extra as u64;
+        let kept = take_kept(alloc, count, slot.size, last_block(sparse), input, state)?;
+        before_last = kept.before_last;
+        *lengths = kept.lengths;
+    }
+    if let Some((place, reason)) = kept_refusal(&sub, slot.size, before_last, place, index) {
+        return Err(ReadFault::Refused { place, reason });
+    }
+    Ok(Measured { slot, sub, index })
+}
+
+/// Returns the block of the last entry of a sparse index; 0 if there is none.
+fn last_block(sparse: &[Entry]) -> u64
+    ensures { (j : ℕ) → suc j ≡ length sparse.now → IfSome (slice_get sparse.now j) (λ entry. result ≡ entry.block) }
+{
+    match sparse.last() {
+        Some(entry) => u64::from(entry.block),
+        None => 0,
+    }
+}
+
 /// Checks block lengths that begin at offset `place` and a sparse index that begins at offset `index`. Returns the
 /// first failing check with its offset.
 fn index_refusal(sub: &Sub, size: u64, place: u64, index: u64) -> Option<(u64, Reason)>
@@ -144,6 +203,32 @@ fn index_refusal(sub: &Sub, size: u64, place: u64, index: u64) -> Option<(u64, R
     ensures constant { IfNone (layout_of sub.now) (result ≡ None) }
 {
     match check_index(sub, size) {
+        Ok(()) => None,
+        Err(SubFault::ShortTotal) => Some((place, Reason::ShortTotal)),
+        Err(SubFault::SparseEntry(entry)) => Some((index + 6 * entry, Reason::SparseEntry)),
+        // this check has no other fault
+        Err(SubFault::Word(_)) => None,
+    }
+}
+
+/// Checks block lengths and a sparse index as `index_refusal` does, for a subtable of which only the lengths of the blocks that
+/// begin below `size` are kept. `before_last` values come before the block of the last sparse entry.
+fn kept_refusal(
+    sub: &Sub,
+    size: u64,
+    before_last: u64,
+    place: u64,
+    index: u64,
+) -> Option<(u64, Reason)>
+    requires indexed { IsIndexed sub.now size }
+    requires few { IfSome (layout_of sub.now) (λ layout. length layout.lengths < 2 ^ 33) }
+    requires before { before_last < 2 ^ 62 }
+    requires size { size < 2 ^ 33 }
+    requires index { index < 2 ^ 61 }
+    ensures checks { IfSome (layout_of sub.now) (λ layout. (whole : List ℕ) → IsKeptOf layout size before_last whole → Checks (index_check place index (with_lengths whole layout) size) result) }
+    ensures constant { IfNone (layout_of sub.now) (result ≡ None) }
+{
+    match check_kept_index(sub, size, before_last) {
         Ok(()) => None,
         Err(SubFault::ShortTotal) => Some((place, Reason::ShortTotal)),
         Err(SubFault::SparseEntry(entry)) => Some((index + 6 * entry, Reason::SparseEntry)),

@@ -6,7 +6,8 @@ ghost use Rattle.szg_file.specs.File.{file};
 ghost use Rattle.szg_file.specs.Held.{part_of};
 ghost use Rattle.szg_file.specs.Outline.{outlined};
 ghost use Rattle.szg_file.specs.Placed.{Fits};
-ghost use Rattle.szg_file.specs.Reading.{Reading, Lacking};
+ghost use Rattle.szg_file.specs.Kept.{kept_contents, ReadingOf};
+ghost use Rattle.szg_file.specs.Reading.{Lacking};
 ghost use Rattle.szg_file.specs.Streaming.{Accepted, wanted_of};
 
 use crate::fault::ReadFault;
@@ -32,11 +33,12 @@ pub struct Outline {
 }
 
 /// Reads a whole file. Each block is read into the buffer, which grows to the longest. The values that the sink wants
-/// are handed to it in file order. Errors: as `read`; `Memory` too if the sink takes no more values.
+/// are handed to it in file order. Keeps the block lengths that `read_front` keeps. Errors: as `read`; `Memory` too if the sink takes no more values.
 pub(crate) fn read_outline<R: Input, W, K: ValueSink<W>>(
     alloc: Global,
     material: &Material,
     kind: Kind,
+    all: bool,
     buffer: &mut Vec<u8>,
     input: &mut R,
     state: &mut ReaderState,
@@ -46,7 +48,7 @@ pub(crate) fn read_outline<R: Input, W, K: ValueSink<W>>(
     requires place { state.old.place ≡ 0 }
     requires growth { state.old.growth ≡ 0 }
     requires first { R.moved input.old ≡ [] }
-    ensures outline { Reading (file material.now kind) (outlined material.now kind (R.moved input.new)) state.old state.new R.Input input.old input.new result }
+    ensures outline { ReadingOf (file material.now kind) (λ table o. outlined material.now kind (R.moved input.new) o ≡ kept_contents all table) state.old state.new R.Input input.old input.new result }
     ensures place { OnOk result (state.new.place < 2 ^ 57) }
     ensures memory { IsErrOf result ReadFault.Memory → Lacking (file material.now kind) state.old R.Input input.old input.new }
     ensures slots { IfOk result (λ o. o.parts.slots.items ≡ slots material.now kind (map part_of o.parts.bytes.items)) }
@@ -58,7 +60,7 @@ pub(crate) fn read_outline<R: Input, W, K: ValueSink<W>>(
         parts,
         maps,
         measured,
-    } = read_front(alloc, material, kind, input, state)?;
+    } = read_front(alloc, material, kind, all, input, state)?;
     let subs = pass_subs(alloc, kind, measured, buffer, input, state, sink, out)?;
     let last = read_ending(alloc, input, state)?;
     Ok(Outline {

@@ -4,7 +4,7 @@ ghost use Rattle.szg_file.specs.Contents.{Subtable, slots};
 ghost use Rattle.szg_file.specs.FrontRead.{front_read};
 ghost use Rattle.szg_file.specs.Grown.{HasCounted, front_lengths};
 ghost use Rattle.szg_file.specs.Held.{part_of};
-ghost use Rattle.szg_file.specs.Reading.{Reading};
+ghost use Rattle.szg_file.specs.Kept.{kept_front, ReadingOf};
 ghost use Rattle.szg_file.specs.Unread.{front_field};
 ghost use Rattle.szg_file.specs.Values.{slotted};
 
@@ -28,17 +28,19 @@ pub struct FrontRead {
     pub measured: Vec<Measured>,
 }
 
-/// Reads all sections up to the block lengths.
+/// Reads all sections up to the block lengths. Keeps all of these if `all`, and otherwise those of the blocks that begin
+/// below their subtable's number of positions.
 pub(crate) fn read_front<R: Input>(
     alloc: Global,
     material: &Material,
     kind: Kind,
+    all: bool,
     input: &mut R,
     state: &mut ReaderState,
 ) -> Result<FrontRead, ReadFault>
     requires place { state.old.place ≡ 0 }
     requires growth { state.old.growth ≡ 0 }
-    ensures front { Reading (front_field material.now kind) front_read state.old state.new R.Input input.old input.new result }
+    ensures front { ReadingOf (front_field material.now kind) (λ whole kept. front_read kept ≡ kept_front all whole) state.old state.new R.Input input.old input.new result }
     ensures slots { IfOk result (λ f. f.parts.slots.items ≡ slots material.now kind (map part_of f.parts.bytes.items)) }
     ensures slotted { IfOk result (λ f. (subs : List Subtable) → length subs ≡ length f.measured.items → slotted (map (λ measured. measured.slot) f.measured.items) subs ≡ slotted (slots material.now kind (map part_of f.parts.bytes.items)) subs) }
     ensures few { IfOk result (λ f. length f.measured.items ≤ 8) }
@@ -52,7 +54,7 @@ pub(crate) fn read_front<R: Input>(
         heads,
         maps,
     } = read_opening(alloc, material, kind, input, state)?;
-    let measured = read_lengths(alloc, heads, input, state)?;
+    let measured = read_lengths(alloc, heads, all, input, state)?;
     Ok(FrontRead {
         byte4,
         parts,

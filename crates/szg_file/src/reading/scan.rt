@@ -52,7 +52,7 @@ pub fn scan<R: Input, W, K: ValueSink<W>>(
         maps,
         last,
     } = read_outline(
-        alloc, &material, kind, &mut block, input, &mut state, sink, out,
+        alloc, &material, kind, false, &mut block, input, &mut state, sink, out,
     )?;
     Ok(Scanned {
         index: index_of_placed(material, kind, parts, &subs, maps),

@@ -4,7 +4,7 @@ ghost use Rattle.szg_code.specs.Acceptance.{IsCode};
 ghost use Rattle.szg_block.specs.Block.{block_values, needed, start};
 ghost use Rattle.szg_block.specs.Expansion.{joined_values};
 ghost use Rattle.szg_block.specs.Sound.{SpellsNeeded};
-ghost use Rattle.szg_block.specs.Subtable.{layout_of, IsShapedHead};
+ghost use Rattle.szg_block.specs.Subtable.{layout_of, IsHeaded};
 ghost use Rattle.szg_file.specs.File.{blocks_from};
 ghost use Rattle.szg_file.specs.Held.{subtable_of};
 ghost use Rattle.szg_file.specs.Placed.{since};
@@ -20,7 +20,7 @@ use crate::reading::sink::ValueSink;
 use crate::reading::state::ReaderState;
 use crate::typed::code_fits;
 use std::alloc::Global;
-use szg_block::{Sub, decode_block};
+use szg_block::{Sub, decode_block, values_in};
 use szg_io::Input;
 use szg_values::Kind;
 
@@ -38,8 +38,7 @@ fn put_block<W, K: ValueSink<W>>(
     sink: &mut K,
     out: &mut W,
 ) -> Result<(), ReadFault>
-    requires head { IsShapedHead sub.now size }
-    requires there { IsSomeAnd (layout_of sub.now) (λ layout. n < layout.blocks) }
+    requires head { IsHeaded sub.now }
     requires before { IsSomeAnd (layout_of sub.now) (λ layout. before ≡ start layout.lengths n) }
     requires whole { IsSomeAnd (layout_of sub.now) (λ layout. length block.now ≡ 2 ^ layout.block_bits) }
     requires spelled { IsSomeAnd (layout_of sub.now) (λ layout. SpellsNeeded layout size n block.now) }
@@ -76,7 +75,7 @@ fn stream_blocks<R: Input, W, K: ValueSink<W>>(
     requires place { state.old.place < 2 ^ 61 }
     requires room { IfSome (layout_of sub.now) (λ layout. length buffer.old ≡ 2 ^ layout.block_bits) }
     requires short { length buffer.old ≤ 2 ^ 18 }
-    requires shaped { IsShapedHead sub.now size }
+    requires headed { IsHeaded sub.now }
     ensures blocks { IfSome (layout_of sub.now) (λ layout. Reading (blocks_from layout size 0 layout.blocks) (λ _. since (R.moved input.old) (R.moved input.new)) state.old state.new R.Input input.old input.new result) }
     ensures count { IfSome (layout_of sub.now) (λ layout. OnOk result (state.new.place ≡ state.old.place + layout.blocks * 2 ^ layout.block_bits)) }
     ensures place { OnOk result (state.new.place ≤ state.old.place + 2 ^ 50) }
@@ -98,7 +97,7 @@ fn stream_blocks<R: Input, W, K: ValueSink<W>>(
     'each_block: for n in 0..*blocks {
         pass_block(buffer, sub, size, n, before, input, state)?;
         put_block(wanted, values, sub, size, n, before, buffer, sink, out)?;
-        before += lengths[n as usize] as u64 + 1;
+        before += values_in(lengths, n);
     }
     Ok(())
 }
@@ -118,7 +117,7 @@ pub(crate) fn pass_blocks_to<R: Input, W, K: ValueSink<W>>(
     requires place { state.old.place < 2 ^ 61 }
     requires room { IfSome (layout_of sub.now) (λ layout. length buffer.old ≡ 2 ^ layout.block_bits) }
     requires short { length buffer.old ≤ 2 ^ 18 }
-    requires shaped { IsShapedHead sub.now slot.size }
+    requires headed { IsHeaded sub.now }
     ensures blocks { IfSome (layout_of sub.now) (λ layout. Reading (blocks_from layout slot.size 0 layout.blocks) (λ _. since (R.moved input.old) (R.moved input.new)) state.old state.new R.Input input.old input.new result) }
     ensures count { IfSome (layout_of sub.now) (λ layout. OnOk result (state.new.place ≡ state.old.place + layout.blocks * 2 ^ layout.block_bits)) }
     ensures place { OnOk result (state.new.place ≤ state.old.place + 2 ^ 50) }

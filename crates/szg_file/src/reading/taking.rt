@@ -70,7 +70,7 @@ pub fn read_number<R: Input>(input: &mut R, state: &mut ReaderState) -> Result<u
 
 /// The greatest number of bytes that are read into a list at once. Lists may be 65,536 items ahead of the bytes
 /// read; this is half of that, and the rest is for items that few bytes account for.
-const CHUNK: u64 = 32768;
+pub(crate) const CHUNK: u64 = 32768;
 
 /// Reads `size` bytes, at most 32,768, and appends them to a list.
 fn take_chunk<R: Input>(
@@ -191,7 +191,7 @@ pub(crate) fn take_fill<R: Input>(
 }
 
 /// Decodes rows of two bytes each, and appends the numbers to a list.
-fn append_numbers(
+pub(crate) fn append_numbers(
     rows: &[u8],
     list: &mut Vec<u16>,
     state: &mut ReaderState,

@@ -1,7 +1,6 @@
 use Rattle.std.proofs.Common.{ℕ, ◌≡◌, ◌^◌, length, subst, sym}
 use Rattle.std.specs.Prelude.{IfSome}
 use Rattle.szg_block.specs.Subtable.{layout_of}
-use Rattle.szg_block.proofs.KeptLayouts.{shaped_is_headed}
 use Rattle.szg_file.proofs.Readers.BlockReads.{reads_block_refused}
 use Rattle.szg_file.proofs.Readers.PassedBlocks.{passes_block}
 use Rattle.szg_file.proofs.reading.dropping.pass_block.Goals as goal
@@ -15,6 +14,3 @@ pub returns-in-Ok-clause-block : goal.returns-in-Ok-clause-block
 returns-in-Ok-clause-block g c =
     let room = subst (λ (k : ℕ). IfSome (layout_of c.args.sub.now) (λ layout. k ≡ 2 ^ layout.block_bits)) (sym c.take_field.auto.chunk) c.requires.room in
     passes_block (layout_of c.args.sub.now) c.args.size c.args.n (length c.take_field.new.chunk) c.take_field.new.chunk c.requires.code room c.in-Ok.ensures.ok c.in_ok-take_field.ensures.field
-
-pub check_block_from-requires-clause-head : goal.check_block_from-requires-clause-head
-check_block_from-requires-clause-head g c = shaped_is_headed c.args.sub.now c.args.size c.requires.shaped

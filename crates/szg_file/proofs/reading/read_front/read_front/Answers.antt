@@ -6,7 +6,6 @@ use Rattle.szg_file.specs.Contents.{Slot, slots}
 use Rattle.szg_file.specs.File.{Begun, begun, each, sparse_field, lengths_field}
 use Rattle.szg_file.specs.FilePieces.{Opened, opened, opening_field, measured_field}
 use Rattle.szg_file.specs.Format.{Format, means, ◌>>=◌}
-use Rattle.szg_file.specs.FrontRead.{front_read}
 use Rattle.szg_file.specs.Unread.{FrontRead}
 use Rattle.szg_file.specs.Values.{slotted}
 use Rattle.szg_file.proofs.Grammar.EachLaws.{then-then}
@@ -29,7 +28,7 @@ returns-in_err-byte4-clause-front g c =
     let m : Sides = c.args.material.now in
     let k : Kind = c.args.kind in
     let p = err_from_is_err_and c.from_residual.result c.from_residual.ensures.1 in
-    rw (p.1, p.2) (reads_stopped (opening_field m k) (after_opening m k) opened _ c.in_err-byte4.field-0.0 c.in_err-byte4.ensures.opening)
+    rw (p.1, p.2) (reads_stopped (opening_field m k) (after_opening m k) opened (λ (f : FrontRead). f) c.in_err-byte4.field-0.0 c.in_err-byte4.ensures.opening)
 
 pub returns-in_err-measured-clause-front : goal.returns-in_err-measured-clause-front
 returns-in_err-measured-clause-front g c =
@@ -40,10 +39,10 @@ returns-in_err-measured-clause-front g c =
     let at : c.in_ok-byte4.field-0.heads.items ≡ list = c.in_ok-byte4.ensures.begun in
     let p = err_from_is_err_and c.from_residual-in_err-measured.result c.from_residual-in_err-measured.ensures.1 in
     rw (p.1, p.2)
-    (reads_then (opening_field m k) (after_opening m k) opened _ c.in_ok-byte4.field-0 c.in_ok-byte4.ensures.opening
-    (reads_equal (measured_field list >>= made o) (after_opening m k o) _ (Err c.in_err-measured.field-0.0) (steps m k o)
-    (reads_stopped (measured_field list) (made o) (λ measured. measured.items) _ c.in_err-measured.field-0.0
-    (reads_equal (measured_field c.in_ok-byte4.field-0.heads.items) (measured_field list) (λ measured. measured.items) (Err c.in_err-measured.field-0.0) (ap measured_field at) c.in_err-measured.ensures.lengths))))
+    (reads_then (opening_field m k) (after_opening m k) opened (λ (f : FrontRead). f) c.in_ok-byte4.field-0 c.in_ok-byte4.ensures.opening
+    (reads_equal (measured_field list >>= made o) (after_opening m k o) (λ (f : FrontRead). f) (Err c.in_err-measured.field-0.0) (steps m k o)
+    (reads_stopped (measured_field list) (made o) (λ (l : List Begun). l) (λ (f : FrontRead). f) c.in_err-measured.field-0.0
+    (reads_equal (measured_field c.in_ok-byte4.field-0.heads.items) (measured_field list) (λ (l : List Begun). l) (Err c.in_err-measured.field-0.0) (ap measured_field at) c.in_err-measured.ensures.lengths))))
 
 pub returns-clause-front : goal.returns-clause-front
 returns-clause-front g c =
@@ -52,11 +51,16 @@ returns-clause-front g c =
     let o : Opened = opened c.in_ok-byte4.field-0 in
     let list : List Begun = begun (slots m k o.parts) o.heads in
     let at : c.in_ok-byte4.field-0.heads.items ≡ list = c.in_ok-byte4.ensures.begun in
-    reads_then (opening_field m k) (after_opening m k) opened front_read c.in_ok-byte4.field-0 c.in_ok-byte4.ensures.opening
-    (reads_equal (measured_field list >>= made o) (after_opening m k o) _ (Ok _) (steps m k o)
-    (reads_then (measured_field list) (made o) (λ measured. measured.items) front_read c.in_ok-measured.measured
-    (reads_equal (measured_field c.in_ok-byte4.field-0.heads.items) (measured_field list) (λ measured. measured.items) (Ok c.in_ok-measured.measured) (ap measured_field at) c.in_ok-measured.ensures.lengths)
-    (reads_nothing _ front_read _ refl)))
+    let read = c.in_ok-measured.ensures.lengths in
+    let whole : FrontRead = record { byte4 = o.byte4; parts = o.parts; maps = o.maps; measured = read.0 } in (
+      whole,
+      ap (λ (l : List Begun). let f : FrontRead = record { byte4 = o.byte4; parts = o.parts; maps = o.maps; measured = l } in f) read.1,
+      reads_then (opening_field m k) (after_opening m k) opened (λ _. whole) c.in_ok-byte4.field-0 c.in_ok-byte4.ensures.opening
+          (reads_equal (measured_field list >>= made o) (after_opening m k o) _ (Ok _) (steps m k o)
+          (reads_then (measured_field list) (made o) (λ _. read.0) (λ _. whole) c.in_ok-measured.measured
+          (reads_equal (measured_field c.in_ok-byte4.field-0.heads.items) (measured_field list) (λ _. read.0) (Ok c.in_ok-measured.measured) (ap measured_field at) read.2)
+          (reads_nothing _ (λ _. whole) _ refl))),
+    )
 
 pub returns-clause-slotted : goal.returns-clause-slotted
 returns-clause-slotted g c = λ subs many.

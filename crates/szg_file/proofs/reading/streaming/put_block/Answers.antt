@@ -4,7 +4,6 @@ use Rattle.szg_block.specs.Block.{block_values, needed}
 use Rattle.szg_block.specs.Layout.{Layout}
 use Rattle.szg_block.specs.Subtable.{layout_of}
 use Rattle.szg_file.specs.Streaming.{Accepted, values_if}
-use Rattle.szg_block.proofs.KeptLayouts.{shaped_is_headed}
 use Rattle.szg_file.proofs.Readers.Streamed.{accepted_as, accepted_one, accepted_wanted}
 use Rattle.szg_file.proofs.reading.streaming.put_block.Goals as goal
 
@@ -23,6 +22,3 @@ returns-in-Ok-clause-accepted g c =
     (λ layout decoded. accepted_wanted g.K.ValueSink.accepts c.args.wanted (values layout) on
     (accepted_as g.K.ValueSink.accepts c.deref.result.now (values layout) (c.deref.ensures.value ∙ decoded ∙ ap (λ (z : List ℕ). z ++ values layout) c.clear.ensures.items)
     (accepted_one g.K.ValueSink.accepts c.deref.result.now c.in-Ok.ensures.accepted)))
-
-pub decode_block-requires-clause-head : goal.decode_block-requires-clause-head
-decode_block-requires-clause-head g c = shaped_is_headed c.args.sub.now c.args.size c.requires.head

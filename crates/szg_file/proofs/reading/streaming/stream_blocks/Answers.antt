@@ -1,12 +1,9 @@
-use Rattle.std.proofs.Common.{◌≡◌, ℕ, suc, ◌+◌, ◌*◌, ◌^◌, ◌<◌, ◌++◌, Bool, [], List, length, take, refl, sym, ap, ◌∙◌, arith, Ok}
-use Rattle.std.specs.Prelude.{slice_index}
-use Rattle.std.proofs.lemmas.List.{get_or_read}
+use Rattle.std.proofs.Common.{◌≡◌, ℕ, ◌+◌, ◌*◌, ◌^◌, ◌++◌, Bool, [], List, length, take, refl, sym, ap, ◌∙◌, arith, Ok}
 use Rattle.std.proofs.lemmas.Result.{err_from_is_err_and}
 use Rattle.szg_block.specs.Block.{block_values, needed, start}
 use Rattle.szg_block.specs.Expansion.{joined_values}
 use Rattle.szg_block.specs.Layout.{Layout}
 use Rattle.szg_block.specs.Subtable.{layout_from}
-use Rattle.szg_block.proofs.Values.{start-step}
 use Rattle.szg_file.specs.declared.fault.ReadFault.TheVariants.{Memory}
 use Rattle.szg_file.specs.File.{block_field, blocks_from}
 use Rattle.szg_file.specs.Format.{means}
@@ -61,14 +58,10 @@ each_block-preserved g c =
     let next : List ℕ = g.R.Input.moved c.pass_block.new.input in
     let read = rw c.in-Pairs.is at c.each_block.invariant.read in
     let block = rw c.in-Pairs.is at c.in_ok-pass_block.ensures.block in
-    let shaped = rw c.in-Pairs.is at c.requires.shaped in
     let room = rw c.in-Pairs.is at c.requires.room in
-    let there : c.each_block.n < length c.in-Pairs.lengths.items = omega (arith, shaped.1.lengths, c.each_block-test.true) in
-    let step = start-step c.in-Pairs.lengths.items c.each_block.n there in
-    let after : start c.in-Pairs.lengths.items (suc c.each_block.n) ≡ start c.in-Pairs.lengths.items (c.each_block.n + 1) = ap (start c.in-Pairs.lengths.items) (omega arith) in
+    let step = rw c.deref.ensures.value at c.values_in-before.ensures.next in
     let before = rw c.in-Pairs.is at c.each_block.invariant.before in
     let count = rw c.in-Pairs.is at c.each_block.invariant.count in
-    let length_is : c.index.result.now ≡ slice_index c.in-Pairs.lengths.items c.each_block.n = get_or_read c.in-Pairs.lengths.items _ _ there c.index.ensures 0 in
     let grown : since first next ≡ since first here ++ since here next = since_on _ _ _ _ tt tt read block in
     let held : c.pass_block.new.buffer ≡ since here next = c.in_ok-pass_block.ensures.held in
     let whole : length (since here next) ≡ 2 ^ c.in-Pairs.block_bits = ap (λ (z : List ℕ). length z) (sym held) ∙ omega (arith, room, c.each_block.auto.buffer, c.pass_block.auto.buffer) in
@@ -85,8 +78,8 @@ each_block-preserved g c =
     ∙ ap (λ (z : List ℕ). first_values layout z c.args.size (c.each_block.n + 1)) (sym grown) in
     record {
       read = rw c.in-Pairs.is (reads_blocks_more _ c.args.size c.each_block.n _ _ (λ (_ : Unit {0}). since first next) tt tt tt grown read block);
-      before = rw c.in-Pairs.is (omega (arith, step, after, before, length_is));
-      few = omega (arith, c.each_block.invariant.few);
+      before = rw c.in-Pairs.is (omega (arith, step, before));
+      few = omega (arith, c.each_block.invariant.few, c.values_in-before.ensures.few);
       count = rw c.in-Pairs.is (omega (arith, count, room, c.in_ok-pass_block.ensures.place, c.each_block.auto.buffer));
       place = omega (arith, c.each_block.invariant.place, c.in_ok-pass_block.ensures.place, c.requires.short, c.each_block.auto.buffer);
       growth = c.in_ok-pass_block.ensures.growth ∙ c.each_block.invariant.growth;

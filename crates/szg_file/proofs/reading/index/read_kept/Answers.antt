@@ -1,0 +1,50 @@
+use Rattle.std.proofs.Common.{ℕ, List, refl, arith, ap, None, Some, map}
+use Rattle.std.proofs.lemmas.Result.{err_from_is_err_and}
+use Rattle.szg_file.specs.Contents.{Slot}
+use Rattle.szg_file.specs.Held.{sparse_of}
+use Rattle.szg_file.proofs.Readers.IndexChecks.{numbers_many}
+use Rattle.szg_file.proofs.Readers.KeptIndexes.{kept_checked, kept_stopped, is_kept_of}
+use Rattle.szg_file.proofs.Readers.ReadingLaws.{reads_nothing}
+use Rattle.szg_file.proofs.reading.index.read_kept.Goals.{in-Pairs+in_ok-kept, in_default}
+use Rattle.szg_file.proofs.reading.index.read_kept.Goals as goal
+
+pub returns-in_err-kept-clause-lengths : goal.returns-in_err-kept-clause-lengths
+returns-in_err-kept-clause-lengths g c =
+    let p = err_from_is_err_and c.from_residual.result c.from_residual.ensures.1 in
+    rw (p.1, p.2, ← c.indexed.view_is, c.in-Pairs.is)
+    (kept_stopped c.indexed.inside.slot c.indexed.inside.index _ (map sparse_of c.in-Pairs.sparse.items) c.in-Pairs.lengths.items c.in-Pairs.packed.items (λ (l : List ℕ). l) c.in_err-kept.field-0.0 c.in_err-kept.ensures.lengths)
+
+pub kept_refusal-requires-clause-few : goal.kept_refusal-requires-clause-few
+kept_refusal-requires-clause-few g c =
+    elim c.match-sub.branch [
+      | in-Pairs+in_ok-kept w ↦ rw w.sub-is (omega (arith, w.in_ok-kept.ensures.seen))
+      | in_default w ↦ rw (w.sub-is, w.in_default.is) tt
+    ]
+
+pub returns-in-Some-clause-lengths : goal.returns-in-Some-clause-lengths
+returns-in-Some-clause-lengths g c =
+    let sized = ap (λ (s : Slot). s.size) c.slot.view_is in
+    elim c.match-sub.branch [
+      | in-Pairs+in_ok-kept w ↦
+          let read = w.in_ok-kept.ensures.lengths in
+          let many = numbers_many _ _ _ read.2 in
+          let checks = (rw (w.sub-is, w.before_last-is) at c.in-Some.ensures.checks) read.0 (is_kept_of _ w.in-Pairs.sparse.items _ _ read.0 w.in_ok-kept.kept read.1 refl refl many (rw w.deref.ensures.value at w.last_block.ensures)) in
+          rw (w.input-is, w.state-is, ← c.indexed.view_is, w.in-Pairs.is)
+          (kept_checked c.indexed.inside.slot c.indexed.inside.index c.slot.inside.size _ (map sparse_of w.in-Pairs.sparse.items) w.in-Pairs.lengths.items w.in-Pairs.packed.items read.0 w.in_ok-kept.kept.lengths.items w.in_ok-kept.kept
+          (Some (c.in-Some.place, c.in-Some.reason)) sized read.1.lengths read.2 checks)
+      | in_default w ↦ let none = rw (w.sub-is, w.in_default.is) at c.in-Some.ensures.constant in absurd cc
+    ]
+
+pub returns-clause-lengths : goal.returns-clause-lengths
+returns-clause-lengths g c =
+    let sized = ap (λ (s : Slot). s.size) c.slot.view_is in
+    elim c.match-sub.branch [
+      | in-Pairs+in_ok-kept w ↦
+          let read = w.in_ok-kept.ensures.lengths in
+          let many = numbers_many _ _ _ read.2 in
+          let checks = (rw (w.sub-is, w.before_last-is, c.in_default-kept_refusal.is) at c.kept_refusal.ensures.checks) read.0 (is_kept_of _ w.in-Pairs.sparse.items _ _ read.0 w.in_ok-kept.kept read.1 refl refl many (rw w.deref.ensures.value at w.last_block.ensures)) in
+          rw (w.input-is, w.state-is, w.sub-is, ← c.indexed.view_is, w.in-Pairs.is)
+          (kept_checked c.indexed.inside.slot c.indexed.inside.index c.slot.inside.size _ (map sparse_of w.in-Pairs.sparse.items) w.in-Pairs.lengths.items w.in-Pairs.packed.items read.0 w.in_ok-kept.kept.lengths.items w.in_ok-kept.kept
+          None sized read.1.lengths read.2 checks)
+      | in_default w ↦ rw (w.input-is, w.state-is, w.sub-is, ← c.indexed.view_is, w.in_default.is) (reads_nothing _ _ _ refl)
+    ]
