@@ -11,6 +11,7 @@ pub mod Found
 pub mod Zeroing
 pub mod Sets
 pub mod Reach
+pub mod Enemies
 pub mod Rows
 pub mod SafeMove
 pub mod Cells

@@ -109,3 +109,17 @@ pub(crate) fn moved(men: &Few<(Man, Color, Square)>, m: &Move) -> Few<(Man, Colo
         count: men.count,
     }
 }
+
+/// Returns these men.
+#[inline(always)]
+pub(crate) fn few_men(men: &[(Man, Color, Square)]) -> Few<(Man, Color, Square)>
+    requires { length men.now ≤ 6 }
+    ensures { result ≡ men.now }
+{
+    let mut places: [(Man, Color, Square); 6] = Default::default();
+    places[..men.len()].copy_from_slice(men);
+    Few {
+        places,
+        count: men.len(),
+    }
+}

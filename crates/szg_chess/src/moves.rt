@@ -26,10 +26,21 @@ impl Position {
         ensures all { result.items ≡ filter (is_capture self.now) (legal_moves self.now) }
         ensures legal { All (Contains (legal_moves self.now)) result.items }
     {
-        self.captures_fit();
         let mut moves = ArrayVec::new();
-        self.push_captures(&mut moves);
+        self.captures_into(&mut moves);
         moves
+    }
+
+    /// Appends the legal captures to an empty list, which isn't copied: exactly the legal moves that capture, in the order of
+    /// `legal_moves`.
+    pub fn captures_into(&self, moves: &mut ArrayVec<Move, MAX_CAPTURES>)
+        requires { moves.old.items ≡ [] }
+        ensures list { moves.new.items ≡ legal_captures self.now }
+        ensures all { moves.new.items ≡ filter (is_capture self.now) (legal_moves self.now) }
+        ensures legal { All (Contains (legal_moves self.now)) moves.new.items }
+    {
+        self.captures_fit();
+        self.push_captures(moves);
     }
 
     /// Returns the legal moves: captures, then moves to empty squares.
@@ -152,39 +163,71 @@ impl Position {
         requires { array_vec_len moves.old + length (captures_of self.now) ≤ CAP }
         ensures { moves.new.items ≡ moves.old.items ++ filter (is_legal self.now) (captures_of self.now) }
     {
+        let enemies = self.enemies();
         for man in self.men() {
             if self.is_own(man) {
-                self.push_captures_by(moves, man);
+                self.push_captures_by(moves, man, enemies);
             }
         }
     }
 
-    /// Appends the legal captures of a man.
+    /// Appends the legal captures of a man. `enemies` has the squares of the other side's men.
     fn push_captures_by<const CAP: usize>(
         &self,
         moves: &mut ArrayVec<Move, CAP>,
         man: &(Man, Color, Square),
+        enemies: u64,
     )
         requires standing { Contains self.now.placed_men man.now }
         requires own { is_color self.now.mover man.now.1 ≡ true }
+        requires enemies { (square : ℕ) → square < 64 → is_in enemies square ≡ list_any (λ s. is_color (other_color self.now.mover) s.1 && s.2 == square) self.now.placed_men }
         requires room { array_vec_len moves.old + length (captures_by self.now man.now) ≤ CAP }
         ensures { moves.new.items ≡ moves.old.items ++ filter (is_legal self.now) (captures_by self.now man.now) }
     {
-        self.push_captures_of_men(moves, man);
+        self.push_captures_of_men(moves, man, enemies);
         self.push_en_passant(moves, man);
     }
 
-    /// Appends the legal captures of enemy men on squares that a man attacks.
+    /// Returns the squares of the other side's men.
+    fn enemies(&self) -> u64
+        ensures { (square : ℕ) → square < 64 → is_in result square ≡ list_any (λ s. is_color (other_color self.now.mover) s.1 && s.2 == square) self.now.placed_men }
+    {
+        let mut squares = 0u64;
+        for man in self.men() {
+            if self.is_enemy(man) {
+                squares |= 1 << man.2.number();
+            }
+        }
+        squares
+    }
+
+    /// Returns whether a man would attack an enemy man on an empty board. If not, it attacks none.
+    fn reaches_enemy(&self, man: &(Man, Color, Square), enemies: u64) -> bool
+        requires { (square : ℕ) → square < 64 → is_in enemies square ≡ list_any (λ s. is_color (other_color self.now.mover) s.1 && s.2 == square) self.now.placed_men }
+        ensures reached { result ≡ list_any (λ t. is_color (other_color self.now.mover) t.1 && attacks [] man.now t.2) self.now.placed_men }
+        ensures none { IsFalse result → flat_map (λ t. moves_if (attacks self.now.placed_men man.now t.2) man.now t.2) (men_of (other_color self.now.mover) self.now.placed_men) ≡ [] }
+    {
+        // A fact that the proof uses: the men are those of a position.
+        let _ = self.men();
+        next_in(reach_of(man) & enemies, 0) < 64
+    }
+
+    /// Appends the legal captures of enemy men on squares that a man attacks. Few men reach one, so that is asked first.
     fn push_captures_of_men<const CAP: usize>(
         &self,
         moves: &mut ArrayVec<Move, CAP>,
         man: &(Man, Color, Square),
+        enemies: u64,
     )
         requires standing { Contains self.now.placed_men man.now }
         requires own { is_color self.now.mover man.now.1 ≡ true }
+        requires enemies { (square : ℕ) → square < 64 → is_in enemies square ≡ list_any (λ s. is_color (other_color self.now.mover) s.1 && s.2 == square) self.now.placed_men }
         requires room { array_vec_len moves.old + length (flat_map (λ t. moves_if (attacks self.now.placed_men man.now t.2) man.now t.2) (men_of (other_color self.now.mover) self.now.placed_men)) ≤ CAP }
         ensures { moves.new.items ≡ moves.old.items ++ filter (is_legal self.now) (flat_map (λ t. moves_if (attacks self.now.placed_men man.now t.2) man.now t.2) (men_of (other_color self.now.mover) self.now.placed_men)) }
     {
+        if !self.reaches_enemy(man, enemies) {
+            return;
+        }
         let men = self.men();
         for other in men {
             if self.is_enemy(other) {

@@ -11,7 +11,7 @@ ghost use Rattle.szg_chess.specs.Squares.{squares_of};
 ghost use Rattle.szg_chess.specs.Moves.{is_check};
 
 use crate::attacks::{is_in_check, other_color, squares_of};
-use crate::men::Few;
+use crate::men::few_men;
 use crate::{Position, PositionFault};
 use szg_values::{
     Color, Man, PlacedMen, Placement, Square, has_distinct_squares, has_pawns_on_inner_ranks,
@@ -37,6 +37,7 @@ impl Position {
     }
 
     /// Creates a position of sound men. Errors: the en passant square, or the side not to move is in check.
+    #[inline(always)]
     #[tactic(auto, unfolding(crate::specs::Position::position_fault, crate::specs::Position::state_fault))]
     pub(crate) fn of_men(
         men: &[(Man, Color, Square)],
@@ -65,6 +66,7 @@ impl Position {
 
     /// Creates a position of a placement's men, the side to move, and the square that a pawn has just passed over by a double
     /// step. Errors: the en passant square, or the side not to move is in check.
+    #[inline(always)]
     pub fn of_placed_men(
         placed_men: &PlacedMen<'_>,
         en_passant: Option<Square>,
@@ -260,15 +262,4 @@ fn was_passed(men: &[(Man, Color, Square)], mover: Color, square: u8) -> bool
                 && is_on(Man::Pawn, Color::White, men, 24 + file)
         }
     }
-}
-
-fn few_men(men: &[(Man, Color, Square)]) -> Few<(Man, Color, Square)>
-    requires { length men.now ≤ 6 }
-    ensures { result ≡ men.now }
-{
-    let mut few = Few::new();
-    for man in men {
-        few.push(*man);
-    }
-    few
 }

@@ -1,0 +1,103 @@
+-- The squares of a colour's men, as a set, and whether a man reaches one of them.
+use Rattle.std.proofs.Common.{◌≡◌, ℕ, ◌+◌, ◌*◌, ◌%◌, ◌^◌, ◌<◌, ◌≤◌, List, [], ◌∷◌, length, take, get_or, zero, suc, refl, sym, ap, ◌∙◌, Bool, true, false, arith, inl, inr}
+use Rattle.std.specs.Prelude.{◌&&◌, ◌||◌, ◌==◌, nat_lt, min, filter, flat_map}
+use Rattle.std.specs.List.{list_any}
+use Rattle.std.specs.Int.{bit_at}
+use Rattle.std.specs.Int.Bits.{bit_and, bit_or}
+use Rattle.std.proofs.lemmas.Bool.{cases_Bool, and_parts, and_from, or_parts, both_ways, eq-eqb, eqb-true, ltb-true, ltb-false}
+use Rattle.std.proofs.lemmas.List.Elements.{All-contains}
+use Rattle.std.proofs.lemmas.List.Folds.{list_any_more}
+use Rattle.std.proofs.lemmas.Nat.Bits.{bit_at_and, bit_at-lt}
+use Rattle.szg_values.specs.Men.{is_color}
+use Rattle.szg_values.specs.declared.Color.{Color}
+use Rattle.szg_values.specs.Placement.{PlacedMan, AreOnBoard}
+use Rattle.szg_chess.specs.Attacks.{attacks, is_clear}
+use Rattle.szg_chess.specs.Moves.{men_of, moves_if}
+use Rattle.szg_chess.specs.Squares.{is_in, reach_of}
+use Rattle.szg_chess.proofs.Members.{any_of, some_of}
+use Rattle.szg_chess.proofs.Reach.{reach_split}
+use Rattle.szg_chess.proofs.Sets.{added, in_set, same_bool, turned}
+
+-- a man of the colour is on the square
+abbrev pub stands : Color → ℕ → PlacedMan → Bool
+stands color q s = is_color color s.1 && s.2 == q
+
+-- ---- the set, man by man
+
+pub with_man : (color : Color) (men : List PlacedMan) (i : ℕ) (s : PlacedMan) (squares n q : ℕ) → i < length men → s ≡ get_or men i s → is_color color s.1 ≡ true → n ≡ s.2 → n < 64 →
+    is_in squares q ≡ list_any (stands color q) (take i men) → is_in (bit_or squares (1 * 2 ^ n % 2 ^ 64)) q ≡ list_any (stands color q) (take (i + 1) men)
+with_man color men i s squares n q h is own same inside before =
+    added squares n q inside
+    ∙ ap (λ (b : Bool). b || q == n) before
+    ∙ ap (λ (b : Bool). list_any (stands color q) (take i men) || b) (turned q n ∙ ap (λ (k : ℕ). k == q) same ∙ ap (λ (b : Bool). b && s.2 == q) (sym own) ∙ ap (stands color q) is)
+    ∙ sym (list_any_more (stands color q) men i s h)
+
+pub without_man : (color : Color) (men : List PlacedMan) (i : ℕ) (s : PlacedMan) (squares q : ℕ) → i < length men → s ≡ get_or men i s → is_color color s.1 ≡ false →
+    is_in squares q ≡ list_any (stands color q) (take i men) → is_in squares q ≡ list_any (stands color q) (take (i + 1) men)
+without_man color men i s squares q h is other before =
+    before ∙ or_false (list_any (stands color q) (take i men))
+    ∙ ap (λ (b : Bool). list_any (stands color q) (take i men) || b) (ap (λ (b : Bool). b && s.2 == q) (sym other) ∙ ap (stands color q) is)
+    ∙ sym (list_any_more (stands color q) men i s h)
+  where
+    or_false : (b : Bool) → b ≡ (b || false)
+    or_false true = refl
+    or_false false = refl
+
+-- ---- two sets
+
+min_both : (x y : ℕ) → x < 2 → y < 2 → (min x y == 1) ≡ (x == 1 && y == 1)
+min_both zero zero h k = refl
+min_both zero (suc zero) h k = refl
+min_both zero (suc (suc y)) h k = absurd (omega (arith, k))
+min_both (suc zero) zero h k = refl
+min_both (suc zero) (suc zero) h k = refl
+min_both (suc zero) (suc (suc y)) h k = absurd (omega (arith, k))
+min_both (suc (suc x)) y h k = absurd (omega (arith, h))
+
+in_both : (a b q : ℕ) → is_in (bit_and a b) q ≡ (is_in a q && is_in b q)
+in_both a b q = ap (λ (k : ℕ). k == 1) (bit_at_and a b q) ∙ min_both (bit_at a q) (bit_at b q) (bit_at-lt a q) (bit_at-lt b q)
+
+-- the first square that is in both sets, if any, is one that the man would attack on an empty board
+pub first_reached : (color : Color) (men : List PlacedMan) (s : PlacedMan) (a b first : ℕ) → AreOnBoard men → a ≡ reach_of s → ((q : ℕ) → q < 64 → is_in b q ≡ list_any (stands color q) men) →
+    (first < 64 → is_in (bit_and a b) first ≡ true) → ((q : ℕ) → 0 ≤ q → q < first → is_in (bit_and a b) q ≡ false) → nat_lt first 64 ≡ list_any (λ t. is_color color t.1 && attacks [] s t.2) men
+first_reached color men s a b first on_board reach enemies found none = same_bool (nat_lt first 64) (list_any (λ t. is_color color t.1 && attacks [] s t.2) men) there back
+  where
+    there : nat_lt first 64 ≡ true → list_any (λ t. is_color color t.1 && attacks [] s t.2) men ≡ true
+    there e =
+        let inside = ltb-true first 64 e in
+        let both = and_parts (is_in a first) (is_in b first) (sym (in_both a b first) ∙ found inside) in
+        let attacked : attacks [] s first ≡ true = sym (in_set (attacks [] s) first inside) ∙ ap (λ (n : ℕ). is_in n first) (sym reach) ∙ both.0 in
+        let enemy = some_of (stands color first) men (sym (enemies first inside) ∙ both.1) in
+        let parts = and_parts (is_color color enemy.0.1) (enemy.0.2 == first) enemy.1.1 in
+        any_of (λ (t : PlacedMan). is_color color t.1 && attacks [] s t.2) men enemy.0 enemy.1.0 (and_from (is_color color enemy.0.1) (attacks [] s enemy.0.2) parts.0 (ap (attacks [] s) (eqb-true enemy.0.2 first parts.1) ∙ attacked))
+
+    back : list_any (λ t. is_color color t.1 && attacks [] s t.2) men ≡ true → nat_lt first 64 ≡ true
+    back e =
+        let enemy = some_of (λ (t : PlacedMan). is_color color t.1 && attacks [] s t.2) men e in
+        let q = enemy.0.2 in
+        let inside : q < 64 = All-contains (λ (t : PlacedMan). t.2 < 64) men enemy.0 on_board enemy.1.0 in
+        let parts = and_parts (is_color color enemy.0.1) (attacks [] s q) enemy.1.1 in
+        let one : is_in a q ≡ true = ap (λ (n : ℕ). is_in n q) reach ∙ in_set (attacks [] s) q inside ∙ parts.1 in
+        let two : is_in b q ≡ true = enemies q inside ∙ any_of (stands color q) men enemy.0 enemy.1.0 (and_from (is_color color enemy.0.1) (q == q) parts.0 (eq-eqb q q refl)) in
+        let both : is_in (bit_and a b) q ≡ true = in_both a b q ∙ and_from (is_in a q) (is_in b q) one two in
+        elim (cases_Bool (nat_lt first 64)) [
+          | inl t ↦ t
+          | inr f ↦ let far = ltb-false first 64 f in absurd (both_ways (is_in (bit_and a b) q) (none q (omega arith) (omega (arith, inside, far))) both)
+        ]
+
+-- ---- captures
+
+flat_none : {X A : Type 0} (own test : X → Bool) (f : X → List A) (xs : List X) → list_any (λ x. own x && test x) xs ≡ false → ((x : X) → test x ≡ false → f x ≡ []) → flat_map f (filter own xs) ≡ []
+flat_none own test f [] e none = refl
+flat_none own test f (x ∷ xs) e none =
+    let parts = or_parts (own x && test x) (list_any (λ y. own y && test y) xs) e in
+    elim (cases_Bool (own x)) [
+      | inl t ↦ let no : test x ≡ false = rw t at parts.0 in rw (t, none x no) (flat_none own test f xs parts.1 none)
+      | inr f' ↦ rw f' (flat_none own test f xs parts.1 none)
+    ]
+
+-- a man that reaches no man of the colour has no capture of one
+pub none_captured : (color : Color) (men : List PlacedMan) (s : PlacedMan) → list_any (λ t. is_color color t.1 && attacks [] s t.2) men ≡ false → flat_map (λ t. moves_if (attacks men s t.2) s t.2) (men_of color men) ≡ []
+none_captured color men s e =
+    flat_none (λ (t : PlacedMan). is_color color t.1) (λ (t : PlacedMan). attacks [] s t.2) (λ (t : PlacedMan). moves_if (attacks men s t.2) s t.2) men e
+    (λ t no. ap (λ (b : Bool). moves_if b s t.2) (reach_split men s t.2 ∙ ap (λ (b : Bool). b && is_clear men s.2 t.2) no))
