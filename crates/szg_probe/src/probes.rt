@@ -5,6 +5,7 @@ ghost use Rattle.szg_probe.specs.Chess.{ChessClass};
 ghost use Rattle.szg_probe.specs.Probing.{AreTrue, MayFail, has_only_en_passant, probed, stored_class};
 
 use crate::Tables;
+use arrayvec::ArrayVec;
 use szg_chess::Position;
 use szg_game::Class;
 
@@ -32,7 +33,8 @@ pub(crate) fn search<T: Tables>(tables: &mut T, position: &Position) -> Result<C
 {
     // A fact that the proof uses: the men are those of a position.
     let _ = position.men();
-    let captures = position.captures();
+    let mut captures = ArrayVec::new();
+    position.captures_into(&mut captures);
     let mut best = Class::Loss;
     for m in captures.as_slice() {
         let class = match search(tables, &position.after(*m)) {

@@ -14,7 +14,7 @@ use Rattle.szg_probe.proofs.probes.+search.Goals.{then-is_win-via-then-is_win, t
 pub search-requires : goal.search-requires
 search-requires g t c κs within =
     let p = c.args.position.now in
-    let i = item_in p c.as_slice-m-items.result.now c.loop-m.m-index c.m-item.result (c.as_slice-m-items.ensures.value ∙ c.captures-captures.ensures.list) c.loop-m-test.true c.m-item.is in
+    let i = item_in p c.as_slice-m-items.result.now c.loop-m.m-index c.m-item.result (c.as_slice-m-items.ensures.value ∙ c.captures_into.ensures.list) c.loop-m-test.true c.m-item.is in
     let fewer = (capture_fewer p c.men.ensures.position c.m-item.result i).1 in
     let same = ap (λ (q : Position). length q.placed_men) c.after.ensures in
     (omega (arith, fewer, same, c.decreases), within)
@@ -35,7 +35,7 @@ loop-m-preserved g t c =
 pub returns-in-Err-clause-fault : goal.returns-in-Err-clause-fault
 returns-in-Err-clause-fault g t c =
     let p = c.args.position.now in
-    let i = item_in p c.as_slice-m-items.result.now c.loop-m.m-index c.m-item.result (c.as_slice-m-items.ensures.value ∙ c.captures-captures.ensures.list) c.loop-m-test.true c.m-item.is in
+    let i = item_in p c.as_slice-m-items.result.now c.loop-m.m-index c.m-item.result (c.as_slice-m-items.ensures.value ∙ c.captures_into.ensures.list) c.loop-m-test.true c.m-item.is in
     let explains = g.T.Tables.explains in
     fault_below (explains (g.T.Tables.stored c.args.tables.now) (g.T.Tables.numbers c.args.tables.now) c.in-Err.fault) p c.m-item.result i
     (fault_carried explains (g.T.Tables.stored c.loop-m.tables) (g.T.Tables.stored c.args.tables.now) (g.T.Tables.numbers c.loop-m.tables) (g.T.Tables.numbers c.args.tables.now) c.after.result _ c.in-Err.fault (ap g.T.Tables.stored c.loop-m.invariant.0) (ap g.T.Tables.numbers c.loop-m.invariant.0) c.after.ensures c.in-Err.ensures.fault)
@@ -44,7 +44,7 @@ pub returns-then-is_loss-clause-probed : goal.returns-then-is_loss-clause-probed
 returns-then-is_loss-clause-probed g t c =
     let tables = g.T.Tables.stored c.args.tables.now in
     let p = c.args.position.now in
-    let i = item_in p c.as_slice-m-items.result.now c.loop-m.m-index c.m-item.result (c.as_slice-m-items.ensures.value ∙ c.captures-captures.ensures.list) c.loop-m-test.true c.m-item.is in
+    let i = item_in p c.as_slice-m-items.result.now c.loop-m.m-index c.m-item.result (c.as_slice-m-items.ensures.value ∙ c.captures_into.ensures.list) c.loop-m-test.true c.m-item.is in
     let known = probed_carried (g.T.Tables.stored c.loop-m.tables) tables c.after.result _ c.in-Ok.class (ap g.T.Tables.stored c.loop-m.invariant.0) c.after.ensures c.in-Ok.ensures.probed in
     probed_win tables p c.m-item.result c.in-Ok.class c.men.ensures.position i known (sym c.is_loss.ensures ∙ c.if-is_loss.true)
 
@@ -53,7 +53,7 @@ returns-then-is_win-clause-probed g t c =
     let tables = g.T.Tables.stored c.args.tables.now in
     let p = c.args.position.now in
     let best = c.loop-m.best in
-    let whole = best_whole tables p c.as_slice-m-items.result.now c.loop-m.m-index best (c.as_slice-m-items.ensures.value ∙ c.captures-captures.ensures.list) (omega arith) c.loop-m.invariant.1 in
+    let whole = best_whole tables p c.as_slice-m-items.result.now c.loop-m.m-index best (c.as_slice-m-items.ensures.value ∙ c.captures_into.ensures.list) (omega arith) c.loop-m.invariant.1 in
     let enough : (is_win best || has_only_en_passant p) ≡ true = elim c.then-is_win.branch [
       | then-is_win-via-then-is_win w ↦ or_left (is_win best) (has_only_en_passant p) (sym c.is_win.ensures ∙ w.if-is_win.true)
       | then-is_win-via-else-is_win+then-has_only_en_passant w ↦ or_right (is_win best) (has_only_en_passant p) (sym w.has_only_en_passant.ensures ∙ w.if-has_only_en_passant.true)
@@ -65,7 +65,7 @@ returns-in-Ok-stored_class-clause-probed g t c =
     let tables = g.T.Tables.stored c.args.tables.now in
     let p = c.args.position.now in
     let best = c.loop-m.best in
-    let whole = best_whole tables p c.as_slice-m-items.result.now c.loop-m.m-index best (c.as_slice-m-items.ensures.value ∙ c.captures-captures.ensures.list) (omega arith) c.loop-m.invariant.1 in
+    let whole = best_whole tables p c.as_slice-m-items.result.now c.loop-m.m-index best (c.as_slice-m-items.ensures.value ∙ c.captures_into.ensures.list) (omega arith) c.loop-m.invariant.1 in
     let stored = ap (λ (s : StoredClasses). stored_class s p) (sym (ap g.T.Tables.stored c.loop-m.invariant.0)) ∙ c.in-Ok-stored_class.ensures.class in
     probed_both tables p best c.in-Ok-stored_class.stored c.men.ensures.position whole (sym c.is_win.ensures ∙ c.if-is_win.false) (sym c.has_only_en_passant.ensures ∙ c.if-has_only_en_passant.false) stored
     ∙ ap (λ (k : Class). Some k) (sym c.better.ensures)
