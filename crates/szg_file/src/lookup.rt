@@ -11,7 +11,7 @@ use szg_values::Kind;
 
 /// A subtable with its number of positions.
 #[derive(Clone, Copy)]
-pub struct Found<'a> {
+pub struct SizedSubtable<'a> {
     pub size: u64,
     pub sub: &'a Sub,
 }

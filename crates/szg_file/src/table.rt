@@ -1,7 +1,7 @@
 ghost use Rattle.std.specs.Prelude.{◌≡◌};
 
 use crate::fault::MapFault;
-use crate::lookup::{Found, constant_value};
+use crate::lookup::{SizedSubtable, constant_value};
 use crate::table_index::{Numbered, TableIndex};
 use crate::writing::sections::FieldsRef;
 use std::alloc::{AllocError, Global};
@@ -138,12 +138,12 @@ impl Table {
     }
 
     // Finds a part's side. None if there is no such side.
-    fn find(&self, part: u8, side: u8) -> Option<Found<'_>>
+    fn find(&self, part: u8, side: u8) -> Option<SizedSubtable<'_>>
         ensures found { MatchOption result (subtable_at self.now.contents part side ≡ None) (λ found. IsFound (subtable_at self.now.contents part side) found.size (subtable_of found.sub.now)) }
         ensures accepted { IfSome result (λ found. IsShaped found.sub.now found.size × IsSoundOver found.sub.now (packed_of found.sub.now) found.size) }
     {
         let Numbered { number, slot } = self.index.find(part, side)?;
-        Some(Found {
+        Some(SizedSubtable {
             size: slot.size,
             sub: &self.subs[number],
         })

@@ -22,7 +22,7 @@ use szg_tables::{Missing, TableSet, ValueLists};
 use szg_values::{Kind, Material};
 use szg_verify::laws::{verified_is_true, walk_is_whole};
 use szg_verify::{
-    Cell, Refusal, Shard, Walked, Watcher, are_closed, leads_to, number_count, shard_start,
+    Cell, RefusedPosition, Shard, Walked, Watcher, are_closed, leads_to, number_count, shard_start,
     verify_range,
 };
 
@@ -43,7 +43,7 @@ pub trait Progress: Watcher {
 #[derive(Drop)]
 pub enum Cause {
     /// The first position that does not pass.
-    Refused(Refusal),
+    Refused(RefusedPosition),
     /// There is no table of this kind and material.
     NoTable(Kind, Material),
     /// What a table does not have for a placement: an index, or a value with a meaning.

@@ -10,8 +10,8 @@ ghost use Rattle.szg_verify.specs.Verified.{entry_after, is_checked};
 
 use crate::conditions::{Condition, broken_by};
 use crate::entries::{find_entry, plain_entry};
-use crate::memory::{Numbered, is_zeroing, number_men, recall_after, set_square};
-use crate::steps::Steps;
+use crate::memory::{NumberedMen, is_zeroing, number_men, recall_after, set_square};
+use crate::steps::EntrySteps;
 use crate::{Cell, DtzTables};
 use szg_chess::{Move, Position};
 use szg_game::Entry;
@@ -29,8 +29,8 @@ pub fn check_position<T: Tables, D: DtzTables<Fault = T::Fault>>(
     classes: &mut T,
     distances: &mut D,
     cells: &mut [Cell],
-    steps: &mut Steps,
-    quiet: &mut Steps,
+    steps: &mut EntrySteps,
+    quiet: &mut EntrySteps,
     position: &Position,
 ) -> Result<Option<Condition>, T::Fault>
     requires right { AreRight (kinds_of position.now.placed_men) (tables_of (T.stored classes.old) (D.distances distances.old)) cells.old }
@@ -57,9 +57,9 @@ fn all_steps<T: Tables, D: DtzTables<Fault = T::Fault>>(
     classes: &mut T,
     distances: &mut D,
     cells: &mut [Cell],
-    quiet: &mut Steps,
+    quiet: &mut EntrySteps,
     position: &Position,
-    steps: &mut Steps,
+    steps: &mut EntrySteps,
 ) -> Result<bool, T::Fault>
     requires right { AreRight (kinds_of position.now.placed_men) (tables_of (T.stored classes.old) (D.distances distances.old)) cells.old }
     ensures same_classes { T.stored classes.new ≡ T.stored classes.old }
@@ -90,9 +90,9 @@ fn entry_after<T: Tables, D: DtzTables<Fault = T::Fault>>(
     classes: &mut T,
     distances: &mut D,
     cells: &mut [Cell],
-    quiet: &mut Steps,
+    quiet: &mut EntrySteps,
     position: &Position,
-    numbered: &Numbered,
+    numbered: &NumberedMen,
     m: Move,
     zeroing: bool,
 ) -> Result<Option<Entry>, T::Fault>

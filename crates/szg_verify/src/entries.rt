@@ -9,9 +9,9 @@ ghost use Rattle.szg_verify.specs.Memory.{AreRight, IsNumbered};
 ghost use Rattle.szg_verify.specs.Entries.{is_drawn, keeps, least_plies, most_plies, plies_before, entry_by_distance, wins_at_once, is_one_ply, farthest, greatest, least, entry_before, near_entry, near_after, far_as, quiet_moves, steps_to, plain_entry, tables_of, StepList};
 
 use crate::memory::{
-    Numbered, holds_pawn, is_zeroing, keep, number_men, recall, recall_after, set_square,
+    NumberedMen, holds_pawn, is_zeroing, keep, number_men, recall, recall_after, set_square,
 };
-use crate::steps::Steps;
+use crate::steps::EntrySteps;
 use crate::{Cell, Distance, DtzTables};
 use szg_chess::{Move, Position};
 use szg_game::{Class, Entry};
@@ -236,7 +236,7 @@ fn near_after<T: Tables, D: DtzTables<Fault = T::Fault>>(
     distances: &mut D,
     cells: &mut [Cell],
     position: &Position,
-    numbered: &Numbered,
+    numbered: &NumberedMen,
     m: Move,
 ) -> Result<Option<Entry>, T::Fault>
     requires legal { Contains (legal_moves position.now) m }
@@ -265,7 +265,7 @@ fn quiet_steps<T: Tables, D: DtzTables<Fault = T::Fault>>(
     cells: &mut [Cell],
     position: &Position,
     moves: &[Move],
-    steps: &mut Steps,
+    steps: &mut EntrySteps,
 ) -> Result<bool, T::Fault>
     requires moves { moves.now ≡ legal_moves position.now }
     requires few { length moves.now ≤ 128 }
@@ -349,7 +349,7 @@ fn far_entry<T: Tables, D: DtzTables<Fault = T::Fault>>(
     classes: &mut T,
     distances: &mut D,
     cells: &mut [Cell],
-    quiet: &mut Steps,
+    quiet: &mut EntrySteps,
     position: &Position,
     class: Class,
 ) -> Result<Option<Entry>, T::Fault>
@@ -372,7 +372,7 @@ fn kept_far<T: Tables, D: DtzTables<Fault = T::Fault>>(
     classes: &mut T,
     distances: &mut D,
     cells: &mut [Cell],
-    quiet: &mut Steps,
+    quiet: &mut EntrySteps,
     position: &Position,
     class: Class,
 ) -> Result<Option<Entry>, T::Fault>
@@ -400,7 +400,7 @@ fn kept_entry<T: Tables, D: DtzTables<Fault = T::Fault>>(
     classes: &mut T,
     distances: &mut D,
     cells: &mut [Cell],
-    quiet: &mut Steps,
+    quiet: &mut EntrySteps,
     position: &Position,
     class: Class,
 ) -> Result<Option<Entry>, T::Fault>
@@ -424,7 +424,7 @@ pub(crate) fn find_entry<T: Tables, D: DtzTables<Fault = T::Fault>>(
     classes: &mut T,
     distances: &mut D,
     cells: &mut [Cell],
-    quiet: &mut Steps,
+    quiet: &mut EntrySteps,
     position: &Position,
 ) -> Result<Option<Entry>, T::Fault>
     requires right { AreRight (kinds_of position.now.placed_men) (tables_of (T.stored classes.old) (D.distances distances.old)) cells.old }
@@ -445,7 +445,7 @@ pub(crate) fn plain_entry<T: Tables, D: DtzTables<Fault = T::Fault>>(
     classes: &mut T,
     distances: &mut D,
     cells: &mut [Cell],
-    quiet: &mut Steps,
+    quiet: &mut EntrySteps,
     position: &Position,
 ) -> Result<Option<Entry>, T::Fault>
     requires right { AreRight (kinds_of position.now.placed_men) (tables_of (T.stored classes.old) (D.distances distances.old)) cells.old }

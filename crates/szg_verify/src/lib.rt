@@ -20,10 +20,10 @@ pub use checking::check_position;
 pub use closed::{are_closed, leads_to};
 pub use conditions::{Condition, broken_by};
 pub use memory::Cell;
-pub use steps::Steps;
+pub use steps::EntrySteps;
 pub use tables::{DtzTables, has_equal_sides};
 pub use verifying::verify;
-pub use walk::{Refusal, Shard, Walked, Watcher, number_count, shard_start, verify_range};
+pub use walk::{RefusedPosition, Shard, Walked, Watcher, number_count, shard_start, verify_range};
 
 /// A number that a DTZ table stores: the plies after the first one, up to mate or to the zeroing move.
 #[derive(Clone, Copy, Debug, PartialEq, Eq)]

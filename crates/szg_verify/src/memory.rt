@@ -26,7 +26,7 @@ pub struct Cell {
 
 /// Where the entry of a position is kept.
 #[derive(Clone, Copy)]
-struct Spot {
+struct CellSpot {
     tag: u16,
     place: usize,
 }
@@ -34,7 +34,7 @@ struct Spot {
 /// The squares of a position's men as one number, whether one of them is a pawn, and the place value of the man on a square:
 /// what the spots of the positions after his moves have in common.
 #[derive(Drop)]
-pub(crate) struct Numbered {
+pub(crate) struct NumberedMen {
     pub(crate) digits: u64,
     pub(crate) pawn: bool,
     pub(crate) square: Square,
@@ -42,12 +42,12 @@ pub(crate) struct Numbered {
 }
 
 /// Returns the number of a position's men, with the place value of the man on a1.
-pub(crate) fn number_men(position: &Position) -> Numbered
+pub(crate) fn number_men(position: &Position) -> NumberedMen
     ensures { IsNumbered position.now.placed_men result.digits result.pawn result.square result.place }
 {
     let men = position.men();
     let square = Square::default();
-    Numbered {
+    NumberedMen {
         digits: digits_of(men),
         pawn: holds_pawn(men),
         square,
@@ -56,7 +56,7 @@ pub(crate) fn number_men(position: &Position) -> Numbered
 }
 
 /// Sets the square of the man whose place value is there.
-pub(crate) fn set_square(numbered: &mut Numbered, position: &Position, square: Square)
+pub(crate) fn set_square(numbered: &mut NumberedMen, position: &Position, square: Square)
     requires { IsNumbered position.now.placed_men numbered.old.digits numbered.old.pawn numbered.old.square numbered.old.place }
     ensures numbered { IsNumbered position.now.placed_men numbered.new.digits numbered.new.pawn numbered.new.square numbered.new.place }
     ensures square { numbered.new.square ≡ square }
@@ -68,7 +68,7 @@ pub(crate) fn set_square(numbered: &mut Numbered, position: &Position, square: S
 }
 
 /// Returns whether a move is zeroing, given the men's number.
-pub(crate) fn is_zeroing(numbered: &Numbered, position: &Position, m: &Move) -> bool
+pub(crate) fn is_zeroing(numbered: &NumberedMen, position: &Position, m: &Move) -> bool
     requires { IsNumbered position.now.placed_men numbered.now.digits numbered.now.pawn numbered.now.square numbered.now.place }
     ensures { result ≡ is_zeroing position.now m.now }
 {
@@ -108,7 +108,7 @@ pub(crate) fn recall_after(
     cells: &[Cell],
     needs_near: bool,
     position: &Position,
-    numbered: &Numbered,
+    numbered: &NumberedMen,
     m: &Move,
 ) -> Option<Entry>
     requires numbered { IsNumbered position.now.placed_men numbered.now.digits numbered.now.pawn numbered.now.square numbered.now.place }
@@ -124,7 +124,7 @@ pub(crate) fn recall_after(
 }
 
 /// Returns the entry that was kept at a spot, if it still is there.
-fn recall_at(cells: &[Cell], needs_near: bool, spot: Spot) -> Option<Entry>
+fn recall_at(cells: &[Cell], needs_near: bool, spot: CellSpot) -> Option<Entry>
     requires inside { spot.place < length cells.now }
     ensures { IfSome result (λ e. (p : Position) (tables : StoredTables) → IsPosition p → IsSpotOf (length cells.now) p spot.tag spot.place → AreRight (kinds_of p.placed_men) tables cells.now → found_by needs_near tables p ≡ Some e) }
 {
@@ -234,7 +234,7 @@ fn is_near(code: u8) -> bool
 }
 
 /// Returns where the entry of a position is kept, of so many cells.
-fn spot_of(len: usize, position: &Position) -> Option<Spot>
+fn spot_of(len: usize, position: &Position) -> Option<CellSpot>
     ensures spot { IfSome result (λ s. IsSpotOf len position.now s.tag s.place) }
     ensures inside { IfSome result (λ s. s.place < len) }
     // A fact that the proof uses: the men are those of a position.
@@ -248,7 +248,7 @@ fn spot_of(len: usize, position: &Position) -> Option<Spot>
 }
 
 /// Returns where the entry of the position after a legal move that is not zeroing is kept, of so many cells.
-fn spot_after(len: usize, position: &Position, numbered: &Numbered, m: &Move) -> Option<Spot>
+fn spot_after(len: usize, position: &Position, numbered: &NumberedMen, m: &Move) -> Option<CellSpot>
     requires numbered { IsNumbered position.now.placed_men numbered.now.digits numbered.now.pawn numbered.now.square numbered.now.place }
     requires from { numbered.now.square ≡ m.now.from }
     requires legal { Contains (legal_moves position.now) m.now }
@@ -275,7 +275,7 @@ fn other_color(color: Color) -> Color
 }
 
 /// Returns where the entry of a position of a side to move is kept, with or without pawns, from the squares of the men.
-fn spot_by(len: usize, mover: Color, pawn: bool, digits: u64) -> Option<Spot>
+fn spot_by(len: usize, mover: Color, pawn: bool, digits: u64) -> Option<CellSpot>
     ensures from { IfSome result (λ s. start_of mover len ≤ s.place) }
     ensures to { IfSome result (λ s. s.place < start_of mover len + size_of mover len) }
     ensures number { IfSome result (λ s. packed pawn digits ≡ Some (s.tag * size_of mover len + (s.place - start_of mover len))) }
@@ -292,7 +292,7 @@ fn spot_by(len: usize, mover: Color, pawn: bool, digits: u64) -> Option<Spot>
 }
 
 /// Returns where a number is kept, of `size` cells from `start` on.
-fn spot_in(start: usize, size: usize, number: u64) -> Option<Spot>
+fn spot_in(start: usize, size: usize, number: u64) -> Option<CellSpot>
     requires { start + size < 2 ^ 64 }
     ensures from { IfSome result (λ s. start ≤ s.place) }
     ensures to { IfSome result (λ s. s.place < start + size) }
@@ -300,7 +300,7 @@ fn spot_in(start: usize, size: usize, number: u64) -> Option<Spot>
 {
     let cells = size as u64;
     if number < cells {
-        return Some(Spot {
+        return Some(CellSpot {
             tag: 0,
             place: start + number as usize,
         });
@@ -308,7 +308,7 @@ fn spot_in(start: usize, size: usize, number: u64) -> Option<Spot>
     if size == 0 || 65_535 < number / cells {
         return None;
     }
-    Some(Spot {
+    Some(CellSpot {
         tag: (number / cells) as u16,
         place: start + (number % cells) as usize,
     })
@@ -353,7 +353,7 @@ fn digits_of(men: &[(Man, Color, Square)]) -> u64
 }
 
 /// Returns the squares of the men after a move that captures none as one number, from the number before it.
-fn digits_after(position: &Position, numbered: &Numbered, m: &Move) -> u64
+fn digits_after(position: &Position, numbered: &NumberedMen, m: &Move) -> u64
     requires numbered { IsNumbered position.now.placed_men numbered.now.digits numbered.now.pawn numbered.now.square numbered.now.place }
     requires from { numbered.now.square ≡ m.now.from }
     ensures digits { result ≡ digits_of (map (man_after m.now) position.now.placed_men) }

@@ -8,12 +8,12 @@ use szg_game::{Class, Entry};
 
 /// Room for the entries after some moves, and whether each move is zeroing.
 #[derive(Drop)]
-pub struct Steps {
+pub struct EntrySteps {
     cells: [(Entry, bool); MAX_MOVES],
     len: usize,
 }
 
-impl Model for Steps {
+impl Model for EntrySteps {
     ghost use Rattle.std.specs.Prelude.{◌≤◌, take};
     ghost use Rattle.szg_verify.specs.Entries.{StepList};
 
@@ -24,9 +24,9 @@ impl Model for Steps {
     ghost invariant = { λ s. s.len ≤ 128 };
 }
 
-impl Steps {
+impl EntrySteps {
     /// Creates an empty list.
-    pub fn new() -> Steps
+    pub fn new() -> EntrySteps
         ensures { result.items ≡ [] }
     {
         let missing = Entry {
@@ -34,7 +34,7 @@ impl Steps {
             lower: 0,
             upper: 0,
         };
-        Steps {
+        EntrySteps {
             cells: [(missing, false); MAX_MOVES],
             len: 0,
         }

@@ -11,7 +11,7 @@ ghost use Rattle.szg_verify.specs.Verified.{is_checked};
 ghost use Rattle.szg_verify.specs.Walk.{IsFirstRefused, IsRangeChecked, IsRefused, colored_men, has_lone_pawns, has_pawn, is_walked, number_count, placed_by, position_by, shard_start};
 
 use crate::memory::clear;
-use crate::{Cell, Condition, DtzTables, Steps, check_position};
+use crate::{Cell, Condition, DtzTables, EntrySteps, check_position};
 use arrayvec::ArrayVec;
 use szg_chess::Position;
 use szg_probe::Tables;
@@ -26,12 +26,12 @@ pub struct Walked {
     /// The number of positions that were checked.
     pub positions: u64,
     /// The first position that does not pass.
-    pub refused: Option<Refusal>,
+    pub refused: Option<RefusedPosition>,
 }
 
 /// A position that does not pass.
 #[derive(Drop)]
-pub struct Refusal {
+pub struct RefusedPosition {
     /// The number that places its men.
     pub number: u64,
     /// The position.
@@ -99,8 +99,8 @@ pub fn verify_range<T: Tables, D: DtzTables<Fault = T::Fault>, W: Watcher>(
     let men = colored.as_slice();
     let lone = has_lone_pawns(men);
     let none = !has_pawn(men);
-    let mut steps = Steps::new();
-    let mut quiet = Steps::new();
+    let mut steps = EntrySteps::new();
+    let mut quiet = EntrySteps::new();
     let mut positions: u64 = 0;
     for number in from..to {
         if number % CHUNK == 0 {
@@ -171,8 +171,8 @@ fn check_number<T: Tables, D: DtzTables<Fault = T::Fault>>(
     classes: &mut T,
     distances: &mut D,
     cells: &mut [Cell],
-    steps: &mut Steps,
-    quiet: &mut Steps,
+    steps: &mut EntrySteps,
+    quiet: &mut EntrySteps,
     men: &[(Man, Color)],
     number: u64,
 ) -> Result<Walked, T::Fault>
@@ -224,8 +224,8 @@ fn check_placed<T: Tables, D: DtzTables<Fault = T::Fault>>(
     classes: &mut T,
     distances: &mut D,
     cells: &mut [Cell],
-    steps: &mut Steps,
-    quiet: &mut Steps,
+    steps: &mut EntrySteps,
+    quiet: &mut EntrySteps,
     number: u64,
     placed: &[(Man, Color, Square)],
     mover: Color,
@@ -257,7 +257,7 @@ fn check_placed<T: Tables, D: DtzTables<Fault = T::Fault>>(
         }),
         Some(condition) => Ok(Walked {
             positions: 1,
-            refused: Some(Refusal {
+            refused: Some(RefusedPosition {
                 number,
                 position,
                 condition,
