@@ -114,7 +114,7 @@ whole_entry : (layout : Layout) (size : ℕ) → IsShapedLayout layout size → 
 whole_entry layout size shaped j None good = tt
 whole_entry layout size shaped j (Some entry) good = inl (omega (arith, good.there, shaped.lengths), good.location)
 
-whole_locates : (layout : Layout) (size : ℕ) → IsShapedLayout layout size → HasTotal layout size → ((j : ℕ) → HasGoodEntry layout j) → CanLocate layout size
+pub whole_locates : (layout : Layout) (size : ℕ) → IsShapedLayout layout size → HasTotal layout size → ((j : ℕ) → HasGoodEntry layout j) → CanLocate layout size
 whole_locates layout size shaped total entries = record {
   span_bits = shaped.span_bits;
   sparse = shaped.sparse;

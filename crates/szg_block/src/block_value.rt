@@ -2,9 +2,10 @@
 
 ghost use Rattle.std.specs.Prelude.{◌≡◌, ◌⊎◌, ◌<◌, ◌≤◌, ◌^◌, IfErr, IfOk, IfSome, IsSomeAnd, IsTrue, OnOk, Some, length, slice_get};
 ghost use Rattle.szg_block.specs.Block.{block_values};
+ghost use Rattle.szg_block.specs.Kept.{IsLocatable};
 ghost use Rattle.szg_block.specs.Sound.{SpellsNeeded};
 ghost use Rattle.szg_block.specs.Steps.{block_location};
-ghost use Rattle.szg_block.specs.Subtable.{layout_of, HasSoundIndex, IsShapedHead};
+ghost use Rattle.szg_block.specs.Subtable.{layout_of, IsHeaded};
 
 use crate::probing::ValueLocation;
 use crate::words::{find_up_to, find_verified};
@@ -49,8 +50,8 @@ pub fn value_in_block(
 /// verifies that the block's own bits spell all values that the block needs, as `check_block` does. `location` is what
 /// `locate_value` returns for `i`.
 ///
-/// Only the lengths and the sparse index must be sound; the block may hold any bytes. Errors: `Word(location.block)` if the
-/// block's own bits spell fewer values than the block needs.
+/// The lengths of blocks that begin at `size` or later may be missing, and the block may hold any bytes. Errors:
+/// `Word(location.block)` if the block's own bits spell fewer values than the block needs.
 pub fn checked_value(
     sub: &Sub,
     size: u64,
@@ -58,8 +59,8 @@ pub fn checked_value(
     location: ValueLocation,
     block: &[u8],
 ) -> Result<u16, SubFault>
-    requires head { IsShapedHead sub.now size }
-    requires index { HasSoundIndex sub.now size }
+    requires head { IsHeaded sub.now }
+    requires index { IsLocatable sub.now size }
     requires below { i < size }
     requires at_block { IsSomeAnd (layout_of sub.now) (λ layout. location.block ≡ (block_location layout i).list) }
     requires at_item { IsSomeAnd (layout_of sub.now) (λ layout. location.item ≡ (block_location layout i).item) }

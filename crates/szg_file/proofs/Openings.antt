@@ -10,6 +10,7 @@ pub mod PassedLaws
 pub mod OutlinedLaws
 pub mod PlacingLaws
 pub mod WantedLaws
+pub mod KeptFronts
 pub mod KeptTables
 pub mod InPlaceLaws
 pub mod InPlaceValues

@@ -1,11 +1,12 @@
 -- The view of a table that was opened by its front, and its invariant.
-use Rattle.std.specs.Prelude.{ℕ, ◌≡◌, ◌+◌, ◌<◌, ◌≤◌, ◌^◌, List, length, map, drop, Some}
+use Rattle.std.specs.Prelude.{ℕ, Bool, ◌≡◌, ◌+◌, ◌<◌, ◌≤◌, ◌^◌, List, length, map, drop, Some}
 use Rattle.std.specs.List.{AllByRecursion}
 use Rattle.szg_block.specs.BlocksTrait.{bytes_at}
 use Rattle.szg_file.specs.Accepted.{IsPart, AreMaps, SideBySide}
 use Rattle.szg_file.specs.Contents.{Contents, slots, part_numbers}
 use Rattle.szg_file.specs.Format.{good, verdict}
 use Rattle.szg_file.specs.Index.{Index, index_of}
+use Rattle.szg_file.specs.Kept.{kept_subs}
 use Rattle.szg_file.specs.Placed.{whole_sub, Fits}
 use Rattle.szg_file.specs.Unread.{front_in, unread_file, IsUnread}
 use Rattle.szg_file.specs.declared.reading.dropping.PlacedSub.{PlacedSub}
@@ -34,7 +35,9 @@ pub record IsFrontOf (kept : FrontKept) (content : List ℕ) : Type 0 where
   pub last_is : table.last ≡ bytes_at content kept.ending 16
   pub long : length content ≡ kept.length
   pub short : kept.length < 2 ^ 64
-  pub subs_are : map (whole_sub content) kept.subs ≡ table.subtables
+  -- with all block lengths, or with those that the values need
+  pub all : Bool
+  pub subs_are : map (whole_sub content) kept.subs ≡ kept_subs all (slots table.material table.kind table.parts) table.subtables
   pub parts : SideBySide (λ (_ : ℕ). IsPart table.material table.kind) (part_numbers table.material) table.parts
   pub unread : SideBySide IsUnread (slots table.material table.kind table.parts) table.subtables
   pub maps : AreMaps table.kind table.subtables table.maps

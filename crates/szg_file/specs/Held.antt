@@ -1,5 +1,5 @@
 -- The views of the crate's types.
-use Rattle.std.specs.Prelude.{◌≡◌, ℕ, List, map}
+use Rattle.std.specs.Prelude.{ℕ, List, map}
 use Rattle.szg_block.specs.declared.Sub.{Sub}
 use Rattle.szg_block.specs.declared.Sub.TheVariants as sub_variants
 use Rattle.szg_block.specs.Layout.{SparseEntry}

@@ -1,5 +1,5 @@
 -- Tables whose sparse indexes, block lengths and blocks are read where they stand in a file's bytes.
-use Rattle.std.specs.Prelude.{ℕ, ◌≡◌, ◌+◌, ◌*◌, ◌/◌, ◌≤◌, List, [], ◌∷◌, IfSome, length, map, sum_by}
+use Rattle.std.specs.Prelude.{ℕ, true, ◌≡◌, ◌+◌, ◌*◌, ◌/◌, ◌≤◌, List, [], ◌∷◌, IfSome, length, map, sum_by}
 use Rattle.std.specs.Option.{option_map_or}
 use Rattle.szg_block.specs.Block.{needed as needed_by}
 use Rattle.szg_block.specs.BlocksTrait.{bytes_at}
@@ -50,6 +50,7 @@ pub record Stands (placed : PlacedSub) (sub : SubInPlace) : Type 0 where
 pub record IsInPlace (index : Index) (content : List ℕ) (subs : List SubInPlace) : Type 0 where
   pub kept : FrontKept
   pub front : IsFrontOf kept content
+  pub whole : front.all ≡ true
   pub index_is : kept.index ≡ index
   pub subs_are : SideBySide Stands kept.subs subs
 
@@ -88,3 +89,9 @@ pub record EndAt (content : List ℕ) (subs : List PlacedSub) (place : ℕ) : Ty
   pub lengths : AreLengthsFrom content middle subs
   pub lengths_end : middle + sum_by lengths_size subs ≡ place
   pub inside : place ≤ length content
+
+-- the bytes begin with the front of a table whose subtables have all block lengths; the front ends at offset `place`
+pub record IsWholeFront (kept : FrontKept) (place : ℕ) (content : List ℕ) : Type 0 where
+  pub front : IsFrontOf kept content
+  pub whole : front.all ≡ true
+  pub lists : EndAt content kept.subs place

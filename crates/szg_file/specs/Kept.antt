@@ -1,5 +1,5 @@
 -- Subtables without the block lengths that no value needs.
-use Rattle.std.specs.Prelude.{ℕ, ◌≡◌, ◌+◌, Bool, true, false, List, [], ◌∷◌, length, map, sum_by, Result, Ok, Err}
+use Rattle.std.specs.Prelude.{ℕ, ◌≡◌, ◌+◌, Bool, true, false, List, length, map, sum_by, Result, Ok, Err}
 use Rattle.szg_block.specs.Block.{start}
 use Rattle.szg_block.specs.Kept.{kept_lengths}
 use Rattle.szg_io.specs.declared.device.Input.{Ghosts}
@@ -9,7 +9,7 @@ use Rattle.szg_file.specs.Contents.{Contents, Slot, Subtable, constant, pairs, s
 use Rattle.szg_file.specs.File.{Begun, lengths_field}
 use Rattle.szg_file.specs.Format.{Format, means, ◌>>=◌}
 use Rattle.szg_file.specs.Reading.{Reading}
-use Rattle.szg_file.specs.Unread.{FrontRead}
+use Rattle.szg_file.specs.Unread.{FrontRead, BeginsWithFront}
 use Rattle.szg_file.specs.Values.{slotted}
 use Rattle.szg_file.specs.declared.fault.ReadFault.{ReadFault}
 use Rattle.szg_file.specs.declared.reading.state.ReaderState.{ReaderState}
@@ -19,6 +19,11 @@ use Rattle.szg_file.specs.declared.begun.KeptLengths.{KeptLengths}
 abbrev pub kept_of : ℕ → Subtable → Subtable
 kept_of size (constant flags byte) = constant flags byte
 kept_of size (pairs head sparse lengths packed) = pairs head sparse (kept_lengths size lengths) packed
+
+-- a subtable with all block lengths, or with those of the blocks that begin below `size`
+abbrev pub kept_sub : Bool → ℕ → Subtable → Subtable
+kept_sub true size s = s
+kept_sub false size s = kept_of size s
 
 -- the subtables of these slots, each with all block lengths, or with those of the blocks that begin below its number of
 -- positions
@@ -52,6 +57,13 @@ kept_measured false list = map kept_begun list
 -- the same for a front
 abbrev pub kept_front : Bool → FrontRead → FrontRead
 kept_front all f = record { byte4 = f.byte4; parts = f.parts; maps = f.maps; measured = kept_measured all f.measured }
+
+-- the first `place` bytes are a whole front, and `read` is it with all block lengths, or with those of the blocks that begin
+-- below their subtable's number of positions
+pub record BeginsWithKept (all : Bool) (material : Sides) (kind : Kind) (read : FrontRead) (place : ℕ) (content : List ℕ) : Type 0 where
+  pub whole : FrontRead
+  pub kept : read ≡ kept_front all whole
+  pub begins : BeginsWithFront material kind whole place content
 
 -- all block lengths are read and checked
 abbrev pub kept_field : Begun → Format Begun

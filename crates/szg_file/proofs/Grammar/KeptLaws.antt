@@ -78,12 +78,16 @@ pub kept_many : (all : Bool) (list : List Begun) → length (kept_measured all l
 kept_many true list = refl
 kept_many false list = length-map list kept_begun
 
-pub kept_all_flags : (slots : List Slot) (subs : List Subtable) → length slots ≡ length subs → map flags_of (kept_subs false slots subs) ≡ map flags_of subs
-kept_all_flags [] [] e = refl
-kept_all_flags [] (s ∷ subs) e = absurd (omega (arith, e))
-kept_all_flags (slot ∷ slots) [] e = absurd (omega (arith, e))
-kept_all_flags (slot ∷ slots) (s ∷ subs) e =
-    ap (λ (k : ℕ). k ∷ map flags_of (kept_subs false slots subs)) (kept_flags slot.size s) ∙ ap (λ (l : List ℕ). flags_of s ∷ l) (kept_all_flags slots subs (omega (arith, e)))
+fewer_flags : (slots : List Slot) (subs : List Subtable) → length slots ≡ length subs → map flags_of (kept_subs false slots subs) ≡ map flags_of subs
+fewer_flags [] [] e = refl
+fewer_flags [] (s ∷ subs) e = absurd (omega (arith, e))
+fewer_flags (slot ∷ slots) [] e = absurd (omega (arith, e))
+fewer_flags (slot ∷ slots) (s ∷ subs) e =
+    ap (λ (k : ℕ). k ∷ map flags_of (kept_subs false slots subs)) (kept_flags slot.size s) ∙ ap (λ (l : List ℕ). flags_of s ∷ l) (fewer_flags slots subs (omega (arith, e)))
+
+pub kept_all_flags : (all : Bool) (slots : List Slot) (subs : List Subtable) → length slots ≡ length subs → map flags_of (kept_subs all slots subs) ≡ map flags_of subs
+kept_all_flags true slots subs e = refl
+kept_all_flags false slots subs e = fewer_flags slots subs e
 
 -- ---- values
 

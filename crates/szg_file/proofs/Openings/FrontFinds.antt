@@ -1,6 +1,6 @@
 -- Look-ups in a table that was opened by its front: the subtable, the bytes of the value's block, and the value.
 use Rattle.std.proofs.Common.{◌≡◌, ℕ, ◌+◌, ◌-◌, ◌*◌, ◌^◌, ◌<◌, ◌≤◌, List, length, take, drop, refl, sym, ap, subst, ◌∙◌, arith, drop-drop, Option, Some, None, option_map}
-use Rattle.std.specs.Prelude.{Result, Ok, Err, IfOk, IfErr, IfSome, MatchOption, position, slice_get, option_and_then}
+use Rattle.std.specs.Prelude.{Bool, Result, Ok, Err, IfOk, IfErr, IfSome, MatchOption, position, slice_get, option_and_then}
 use Rattle.std.proofs.Math.Nat.{mul-le-mul_right}
 use Rattle.std.proofs.lemmas.List.{length-map, length-drop, length-take-le, take-take, drop-take}
 use Rattle.std.proofs.lemmas.Option.{slice_get-map}
@@ -17,6 +17,7 @@ use Rattle.szg_file.specs.Contents.{Contents, Slot, slots, Subtable}
 use Rattle.szg_file.specs.Fetching.{IsSpot, NamesBadBlock}
 use Rattle.szg_file.specs.FrontTable.{FrontKept, IsFrontOf}
 use Rattle.szg_file.specs.Index.{Index, slots_in, slot_in}
+use Rattle.szg_file.specs.Located.{IsKeptIn}
 use Rattle.szg_file.specs.Lookup.{byte_of}
 use Rattle.szg_file.specs.Placed.{whole_sub, blocks_size, Fits, IsSlotted}
 use Rattle.szg_file.specs.Unread.{front_at, IsDecoded, IsUnread}
@@ -26,33 +27,40 @@ use Rattle.szg_file.specs.declared.reading.dropping.PlacedSub.{PlacedSub}
 use Rattle.szg_file.specs.declared.opened.fetching.FetchFault.{FetchFault}
 use Rattle.szg_file.specs.declared.opened.fetching.FetchFault.TheVariants.{Block, Source}
 use Rattle.szg_file.specs.declared.opened.fetching.BlockSpot.{BlockSpot}
+use Rattle.szg_file.proofs.Openings.KeptFronts.{kept_item, kept_subs_many}
 use Rattle.szg_file.proofs.Openings.OpenedLaws.{all_at}
 use Rattle.szg_file.proofs.Readers.PlacedSubs.{placed_at}
 use Rattle.szg_file.proofs.Tables.TableFinds.{is_at, side_lengths, side_at, found_there}
 
 -- ---- the subtable
 
-pub record IsFrontFound (kept : FrontKept) (content : List ℕ) (part side : ℕ) (slot : Slot) (sub : PlacedSub) : Type 0 where
-  pub is : front_at kept.index.material kept.index.kind content part side ≡ Some (slot, whole_sub content sub)
-  pub unread : IsUnread slot (whole_sub content sub)
+pub record IsFrontFound (kept : FrontKept) (content : List ℕ) (all : Bool) (part side : ℕ) (slot : Slot) (sub : PlacedSub) : Type 0 where
+  pub found : IsKeptIn all (front_at kept.index.material kept.index.kind content part side) content slot sub
+  pub unread : IsUnread slot found.whole
   pub fits : Fits (length content) kept.room sub
 
 module _ (kept : FrontKept) (content : List ℕ) (h : IsFrontOf kept content) where
   pub as_many_slots : length (slots_in kept.index) ≡ length kept.subs
   as_many_slots =
       let t : Contents = h.table in
-      ap (λ (x : Index). length (slots_in x)) h.index_is ∙ side_lengths IsUnread (slots t.material t.kind t.parts) t.subtables h.unread
+      let many = side_lengths IsUnread (slots t.material t.kind t.parts) t.subtables h.unread in
+      ap (λ (x : Index). length (slots_in x)) h.index_is ∙ many ∙ sym (kept_subs_many h.all (slots t.material t.kind t.parts) t.subtables many)
       ∙ ap (λ (z : List Subtable). length z) (sym h.subs_are) ∙ length-map kept.subs (whole_sub content)
 
-  pub front_found : (part side : ℕ) (slot : Slot) (sub : PlacedSub) → IsSlotted (slots_in kept.index) kept.subs part side slot sub → IsFrontFound kept content part side slot sub
+  pub front_found : (part side : ℕ) (slot : Slot) (sub : PlacedSub) → IsSlotted (slots_in kept.index) kept.subs part side slot sub → IsFrontFound kept content h.all part side slot sub
   front_found part side slot sub (n, there, at, held) =
       let t : Contents = h.table in
       let here = subst (λ (x : Index). slice_get (slots_in x) n ≡ Some slot) h.index_is at in
-      let whole = subst (λ (z : List Subtable). slice_get z n ≡ Some (whole_sub content sub)) h.subs_are (slice_get-map (whole_sub content) kept.subs n ∙ ap (option_map (whole_sub content)) held) in
+      let seen = subst (λ (z : List Subtable). slice_get z n ≡ Some (whole_sub content sub)) h.subs_are (slice_get-map (whole_sub content) kept.subs n ∙ ap (option_map (whole_sub content)) held) in
+      let item = kept_item h.all (slots t.material t.kind t.parts) t.subtables n slot (whole_sub content sub) here seen in
       record {
-        is = ap (option_and_then (λ t. subtable_at t part side)) h.there
-            ∙ found_there part side (slots t.material t.kind t.parts) t.subtables n slot (whole_sub content sub) (ap (λ (x : Index). position (is_at part side) (slots_in x)) (sym h.index_is) ∙ there) here whole;
-        unread = side_at IsUnread (slots t.material t.kind t.parts) t.subtables h.unread n slot (whole_sub content sub) here whole;
+        found = record {
+          whole = item.whole;
+          is = ap (option_and_then (λ t. subtable_at t part side)) h.there
+              ∙ found_there part side (slots t.material t.kind t.parts) t.subtables n slot item.whole (ap (λ (x : Index). position (is_at part side) (slots_in x)) (sym h.index_is) ∙ there) here item.there;
+          kept_is = item.kept_is;
+        };
+        unread = side_at IsUnread (slots t.material t.kind t.parts) t.subtables h.unread n slot item.whole here item.there;
         fits = all_at (Fits (length content) kept.room) kept.subs n sub h.fits held;
       }
 
@@ -69,7 +77,7 @@ module _ (kept : FrontKept) (placed : List Slot) (subs : List PlacedSub) (part s
   one_front_slot slot sub (n, there, at, held) =
       ap (λ (z : List Slot). option_and_then (λ n. slice_get z n) (position (is_at part side) z)) (sym same) ∙ ap (option_and_then (λ n. slice_get placed n)) there ∙ at
 
-  pub one_front_found : (content : List ℕ) → IsFrontOf kept content → (slot : Slot) (sub : PlacedSub) → IsSlotted placed subs part side slot sub → IsFrontFound kept content part side slot sub
+  pub one_front_found : (content : List ℕ) (h : IsFrontOf kept content) (slot : Slot) (sub : PlacedSub) → IsSlotted placed subs part side slot sub → IsFrontFound kept content h.all part side slot sub
   one_front_found content h slot sub held =
       front_found kept content h part side slot sub
       (subst (λ (z : List Slot). IsSlotted z kept.subs part side slot sub) same (subst (λ (z : List PlacedSub). IsSlotted placed z part side slot sub) same_subs held))

@@ -12,6 +12,7 @@ use Rattle.szg_file.specs.Format.{verdict, ◌>>=◌}
 use Rattle.szg_file.specs.FrontInput.{BeginsWith, FrontOutcome, IsFrontFault, IsFrontRead, IsFrontRefusal, IsFrontVerdict}
 use Rattle.szg_file.specs.FrontRead.{front_read}
 use Rattle.szg_file.specs.FrontTable.{FrontKept, IsFrontOf}
+use Rattle.szg_file.specs.Kept.{kept_front, BeginsWithKept, ReadingOf}
 use Rattle.szg_file.specs.Reading.{Advances, Answer, IsRefusal, Reading}
 use Rattle.szg_file.specs.Unread.{FrontRead, BeginsWithFront, front_field, after_front, unread_field, unread_file, unread_table}
 use Rattle.szg_file.specs.WholeRead.{Refuses}
@@ -38,16 +39,6 @@ module _ (material : Sides) (kind : Kind) where
   pub front_place : (f : FrontRead) (begun ended : ReaderState) (bytes : List ℕ) → begun.place ≡ 0 → Advances (front_field material kind) f begun ended bytes → ended.place ≡ length bytes
   front_place f begun ended bytes start h = omega (arith, h.place, start)
 
-  -- a file of this size that begins with it
-  pub front_known : (f : FrontRead) (begun ended : ReaderState) (bytes : List ℕ) (size : ℕ) → begun.place ≡ 0 → Advances (front_field material kind) f begun ended bytes → ended.place ≤ size →
-      (content : List ℕ) × (length content ≡ size) × BeginsWithFront material kind f ended.place content
-  front_known f begun ended bytes size start h enough =
-      let rest : List ℕ = replicate (size - length bytes) 0 in
-      let at = front_place f begun ended bytes start h in
-      let long : length (bytes ++ rest) ≡ length bytes + length rest = length-append bytes rest in
-      let more : length rest ≡ size - length bytes = length-replicate (size - length bytes) 0 in
-      (bytes ++ rest, omega (arith, at, long, more, enough), front_begins f begun ended bytes (bytes ++ rest) start h (take_front (length bytes) bytes rest refl))
-
   -- it isn't read to its end
   stopped_stated : {X : Type 0} (view : X → Contents) (fault : ReadFault) (size : ℕ) (begun ended : ReaderState) (coming : Option (List ℕ)) (failures failures' row : ℕ) (may_fail : Bool) (bytes : List ℕ) → begun.place ≡ 0 →
       Answer (unread_file material kind) view begun ended coming failures failures' row may_fail bytes (Err fault) → FrontOutcome material kind bytes size coming (Err fault)
@@ -66,20 +57,34 @@ module _ (material : Sides) (kind : Kind) where
 
   -- ---- a whole front was read
 
-  module _ {R : Type 0} (device : Ghosts R) (r : read.FrontRead) (size : ℕ) (begun ended : ReaderState) (old new : R) (start : begun.place ≡ 0) (h : Reading (front_field material kind) front_read begun ended device old new (Ok r)) where
-    at_end : ended.place ≡ length h.bytes
-    at_end = front_place (front_read r) begun ended h.bytes start h.answer.0
+  module _ {R : Type 0} (device : Ghosts R) (all : Bool) (r : read.FrontRead) (size : ℕ) (begun ended : ReaderState) (old new : R) (start : begun.place ≡ 0)
+      (seen : ReadingOf (front_field material kind) (λ whole kept. front_read kept ≡ kept_front all whole) begun ended device old new (Ok r)) where
+    h : Reading (front_field material kind) (λ (_ : read.FrontRead). seen.0) begun ended device old new (Ok r)
+    h = seen.2
 
-    begins_file : (content : List ℕ) → BeginsWith h.bytes size content → BeginsWithFront material kind (front_read r) ended.place content
-    begins_file content begins = front_begins (front_read r) begun ended h.bytes content start h.answer.0 begins.begins
+    at_end : ended.place ≡ length h.bytes
+    at_end = front_place seen.0 begun ended h.bytes start h.answer.0
+
+    begins_file : (content : List ℕ) → BeginsWith h.bytes size content → BeginsWithKept all material kind (front_read r) ended.place content
+    begins_file content begins = record { whole = seen.0; kept = seen.1; begins = front_begins seen.0 begun ended h.bytes content start h.answer.0 begins.begins }
+
+    -- a file of this size that begins with it
+    pub front_known : ended.place ≤ size → (all : Bool) × (content : List ℕ) × (length content ≡ size) × BeginsWithKept all material kind (front_read r) ended.place content
+    front_known enough =
+        let bytes : List ℕ = h.bytes in
+        let rest : List ℕ = replicate (size - length bytes) 0 in
+        let long : length (bytes ++ rest) ≡ length bytes + length rest = length-append bytes rest in
+        let more : length rest ≡ size - length bytes = length-replicate (size - length bytes) 0 in
+        let whole : length (bytes ++ rest) ≡ size = omega (arith, at_end, long, more, enough) in
+        (all, bytes ++ rest, whole, begins_file (bytes ++ rest) (record { long = whole; begins = take_front (length bytes) bytes rest refl }))
 
     -- a table was made of it
     pub front_opened : (t : FrontKept) → ended.place ≤ size → t.index.material ≡ material → t.index.kind ≡ kind →
-        ((content : List ℕ) → length content ≡ size → BeginsWithFront material kind (front_read r) ended.place content → IsFrontOf t content) → IsFrontRead device material kind size old new (Ok (t, ended.place))
+        ((all : Bool) (content : List ℕ) → length content ≡ size → BeginsWithKept all material kind (front_read r) ended.place content → IsFrontOf t content) → IsFrontRead device material kind size old new (Ok (t, ended.place))
     front_opened t enough m k table = record {
       bytes = h.bytes;
       taken = Takes-more h.bytes 1 h.taken;
-      stated = (m, k, at_end, omega (arith, at_end, enough), λ content begins. table content begins.long (begins_file content begins));
+      stated = (m, k, at_end, omega (arith, at_end, enough), λ content begins. table all content begins.long (begins_file content begins));
     }
 
     late_stated : (fault : ReadFault) → length h.bytes ≤ size → ((content : List ℕ) → BeginsWith h.bytes size content → IsFrontFault (verdict (unread_file material kind) 0 content) fault) →
@@ -89,12 +94,12 @@ module _ (material : Sides) (kind : Kind) where
     late_stated Memory enough late = tt
 
     -- there is no room for what follows it
-    pub front_late : (fault : ReadFault) → ended.place ≤ size → ((content : List ℕ) → length content ≡ size → BeginsWithFront material kind (front_read r) ended.place content → IsFrontFault (verdict (unread_file material kind) 0 content) fault) →
+    pub front_late : (fault : ReadFault) → ended.place ≤ size → ((all : Bool) (content : List ℕ) → length content ≡ size → BeginsWithKept all material kind (front_read r) ended.place content → IsFrontFault (verdict (unread_file material kind) 0 content) fault) →
         IsFrontRead device material kind size old new (Err fault)
     front_late fault enough late = record {
       bytes = h.bytes;
       taken = Takes-more h.bytes 1 h.taken;
-      stated = late_stated fault (omega (arith, at_end, enough)) (λ content begins. late content begins.long (begins_file content begins));
+      stated = late_stated fault (omega (arith, at_end, enough)) (λ content begins. late all content begins.long (begins_file content begins));
     }
 
     -- it is longer than the file

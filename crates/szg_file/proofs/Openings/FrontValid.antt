@@ -1,5 +1,5 @@
 -- What the checks of a front accept.
-use Rattle.std.proofs.Common.{◌≡◌, ℕ, ◌+◌, List, [], ◌∷◌, length, map, sym, ap, subst, Option}
+use Rattle.std.proofs.Common.{◌≡◌, ℕ, ◌+◌, List, [], ◌∷◌, length, map, refl, sym, ap, subst, ◌∙◌, Option}
 use Rattle.szg_values.specs.declared.Kind.{Kind}
 use Rattle.szg_values.specs.declared.Kind.TheVariants.{Wdl, Dtz}
 use Rattle.szg_values.specs.Material.{Sides}
@@ -74,6 +74,12 @@ one_unread slot (pairs head sparse lengths packed) i m p q r =
     let entries : List SparseEntry = q.1 in
     let r' = measured_slot slot i.slot i.subtable (pairs head entries lengths packed) m q.0 q.2 r in
     (record { slot_is = r'.0; is_valid = subst (IsUnread slot) (sym r'.2) (p.0, q.3, r'.3, r'.5) }, ap flags_of (sym r'.2))
+
+pub slots_unread : (slots : List Slot) (measured : List Begun) → SideBySide UnreadAt slots measured → map (λ b. b.slot) measured ≡ slots
+slots_unread [] [] h = refl
+slots_unread [] (m ∷ ms) h = absurd h
+slots_unread (x ∷ xs) [] h = absurd h
+slots_unread (x ∷ xs) (m ∷ ms) h = ap (λ (s : Slot). s ∷ map (λ b. b.slot) ms) h.0.slot_is ∙ ap (λ (l : List Slot). x ∷ l) (slots_unread xs ms h.1)
 
 -- ---- all subtables
 

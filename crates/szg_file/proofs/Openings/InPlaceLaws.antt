@@ -1,6 +1,6 @@
 -- Tables in place: their rows, and the subtables that their checks saw.
 use Rattle.std.proofs.Common.{◌≡◌, ℕ, zero, suc, ◌+◌, ◌-◌, ◌*◌, ◌<◌, ◌≤◌, min, List, [], ◌∷◌, ◌^◌, length, take, drop, map, refl, ap, sym, subst, ◌∙◌, arith, Option, None, Some, option_map, drop-drop}
-use Rattle.std.specs.Prelude.{position, slice_get, slice_index, Err}
+use Rattle.std.specs.Prelude.{Bool, position, slice_get, slice_index, Err}
 use Rattle.std.proofs.lemmas.Option.{get_or_from_slice_get, slice_get-map, slice_get_past}
 use Rattle.szg_block.specs.Block.{needed, block_values}
 use Rattle.szg_block.specs.Indexed.{IsSoundIndex}
@@ -9,7 +9,7 @@ use Rattle.szg_block.specs.Steps.{block_location}
 use Rattle.szg_block.specs.Subtable.{layout_from, layout_of, HasSoundIndex, IsShapedHead}
 use Rattle.szg_block.specs.declared.Sub.{Sub}
 use Rattle.szg_block.specs.declared.Sub.TheVariants.{Constant, Pairs}
-use Rattle.szg_block.proofs.BlockValueLaws.{held_at, IsHeldAt}
+use Rattle.szg_block.proofs.BlockValueLaws.{held_in, IsHeldAt}
 use Rattle.szg_block.proofs.Parts.{needed-min}
 use Rattle.szg_file.specs.Contents.{Head, Slot, Subtable, constant, items, pairs}
 use Rattle.szg_file.specs.Accepted.{SideBySide}
@@ -24,7 +24,7 @@ use Rattle.szg_file.specs.declared.fault.ReadFault.{ReadFault}
 use Rattle.szg_file.specs.declared.fault.ReadFault.TheVariants.{Device, Memory, Refused}
 use Rattle.szg_file.specs.declared.opened.in_place.SubInPlace.{SubInPlace}
 use Rattle.szg_file.specs.declared.reading.dropping.PlacedSub.{PlacedSub}
-use Rattle.szg_file.proofs.Openings.FrontFinds.{as_many_slots, one_front_found}
+use Rattle.szg_file.proofs.Openings.FrontFinds.{as_many_slots, one_front_found, IsFrontFound}
 use Rattle.szg_file.proofs.Tables.TableFinds.{is_at, side_lengths}
 use Rattle.szg_values.specs.Material.{Sides}
 use Rattle.szg_values.specs.declared.Kind.{Kind}
@@ -121,7 +121,7 @@ module _ (placed : PlacedSub) (sub : SubInPlace) (stands : Stands placed sub) (s
 
   module _ (i block item : ℕ) (below : i < size) (block_is : block ≡ (block_location standing.layout i).list) (item_is : item ≡ (block_location standing.layout i).item) where
     pub held : IsHeldAt standing.layout size i block item
-    held = rw standing.is at (held_at placed.sub size i block item shaped index below (rw standing.is block_is) (rw standing.is item_is))
+    held = held_in standing.layout size i block item sound_in_place.total below block_is item_is
 
     pub needed_is : (length count : ℕ) → Some length ≡ slice_get (lengths_in sub.index.lengths.now) block → count ≡ min (length + 1) (size - (i - item)) → count ≡ needed standing.layout.lengths size block
     needed_is length count there is_min =
@@ -158,12 +158,13 @@ module _ (index : Index) (content : List ℕ) (subs : List SubInPlace) (h : IsIn
   pub found_in_place : (part side n : ℕ) (slot : Slot) (sub : SubInPlace) → position (is_at part side) placed ≡ Some n → slice_get placed n ≡ Some slot → slice_get subs n ≡ Some sub → IsFoundInPlace index content part side slot sub
   found_in_place part side n slot sub there at held =
       let first = first_at Stands h.kept.subs subs h.subs_are n sub held in
-      let found = one_front_found h.kept placed h.kept.subs part side kept_slots refl content h.front slot first.0 (n, there, at, first.1) in
+      let found = subst (λ (all : Bool). IsFrontFound h.kept content all part side slot first.0) h.whole (one_front_found h.kept placed h.kept.subs part side kept_slots refl content h.front slot first.0 (n, there, at, first.1)) in
+      let whole : found.found.whole ≡ whole_sub content first.0 = sym found.found.kept_is in
       record {
         placed = first.0;
         stands = first.2;
-        is = ap (λ (x : Index). front_at x.material x.kind content part side) (sym h.index_is) ∙ found.is;
-        unread = found.unread;
+        is = ap (λ (x : Index). front_at x.material x.kind content part side) (sym h.index_is) ∙ found.found.is ∙ ap (λ (s : Subtable). Some (slot, s)) whole;
+        unread = subst (IsUnread slot) whole found.unread;
         inside = found.fits.inside;
         short = omega (arith, h.front.long, h.front.short);
       }

@@ -26,7 +26,7 @@ pub kept_wanted_of : (wanted : ℕ → ℕ → Bool) (t : Contents) → wanted_o
 kept_wanted_of wanted t = kept_wanted_values wanted t.kind (slots t.material t.kind t.parts) t.subtables
 
 pub kept_index : (t : Contents) → length (slots t.material t.kind t.parts) ≡ length t.subtables → index_of (kept_contents false t) ≡ index_of t
-kept_index t long = ap (λ (flags : List ℕ). index_with t.material t.kind t.parts flags t.maps) (kept_all_flags (slots t.material t.kind t.parts) t.subtables long)
+kept_index t long = ap (λ (flags : List ℕ). index_with t.material t.kind t.parts flags t.maps) (kept_all_flags false (slots t.material t.kind t.parts) t.subtables long)
 
 -- the index of the contents that were read
 pub outline_index_is : (material : Sides) (kind : Kind) (bytes : List ℕ) (o : Outline) (t : Contents) → outlined material kind bytes o ≡ kept_contents false t →

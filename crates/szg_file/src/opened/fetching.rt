@@ -2,9 +2,10 @@
 ghost use Rattle.std.specs.Prelude.{◌≡◌, ◌+◌, ◌<◌, ◌^◌, None, Some, IfErr, IfNone, IfOk, IfSome, length, slice_get};
 ghost use Rattle.szg_block.specs.Block.{block_values};
 ghost use Rattle.szg_block.specs.BlocksTrait.{bytes_at};
+ghost use Rattle.szg_block.specs.Kept.{IsLocatable};
 ghost use Rattle.szg_block.specs.Sound.{SpellsNeeded};
 ghost use Rattle.szg_block.specs.Steps.{block_location};
-ghost use Rattle.szg_block.specs.Subtable.{layout_of, HasSoundIndex, IsShapedHead};
+ghost use Rattle.szg_block.specs.Subtable.{layout_of, IsHeaded};
 ghost use Rattle.szg_file.specs.Fetching.{IsSpot};
 ghost use Rattle.szg_file.specs.Placed.{blocks_size};
 
@@ -44,8 +45,8 @@ pub(crate) struct BlockSpot {
 /// Returns the location of value `i` of a subtable. None in a constant subtable.
 #[inline(always)]
 fn spot_of(found: &Slotted, i: u64) -> Option<BlockSpot>
-    requires head { IsShapedHead found.now.placed.now.sub found.now.slot.size }
-    requires index { HasSoundIndex found.now.placed.now.sub found.now.slot.size }
+    requires head { IsHeaded found.now.placed.now.sub }
+    requires index { IsLocatable found.now.placed.now.sub found.now.slot.size }
     requires inside { found.now.placed.now.first + blocks_size found.now.placed.now.sub < 2 ^ 64 }
     requires below { i < found.now.slot.size }
     ensures none { IfNone result (layout_of found.now.placed.now.sub ≡ None) }
@@ -64,8 +65,8 @@ fn spot_of(found: &Slotted, i: u64) -> Option<BlockSpot>
 /// Returns value `i` of a subtable, decoded from its block's bytes, which are verified first.
 #[inline(always)]
 fn value_at(found: &Slotted, i: u64, spot: BlockSpot, block: &[u8]) -> Result<u16, FetchFault>
-    requires head { IsShapedHead found.now.placed.now.sub found.now.slot.size }
-    requires index { HasSoundIndex found.now.placed.now.sub found.now.slot.size }
+    requires head { IsHeaded found.now.placed.now.sub }
+    requires index { IsLocatable found.now.placed.now.sub found.now.slot.size }
     requires below { i < found.now.slot.size }
     requires spot { IsSpot found.now.placed.now i spot }
     requires whole { length block.now ≡ spot.count }
@@ -171,8 +172,10 @@ impl FrontTable {
     ghost use Rattle.szg_file.specs.Fetching.{NamesBadBlock};
     ghost use Rattle.szg_file.specs.FrontTable.{IsFrontOf};
     ghost use Rattle.szg_file.specs.Index.{slot_in};
-    ghost use Rattle.szg_file.specs.Placed.{blocks_size, whole_sub};
-    ghost use Rattle.szg_block.specs.Subtable.{HasSoundIndex, IsShapedHead};
+    ghost use Rattle.szg_file.specs.Located.{IsKeptIn};
+    ghost use Rattle.szg_file.specs.Placed.{blocks_size};
+    ghost use Rattle.szg_block.specs.Kept.{IsLocatable};
+    ghost use Rattle.szg_block.specs.Subtable.{IsHeaded};
     ghost use Rattle.szg_file.specs.Unread.{front_at, IsDecoded};
 
     // Returns the slot of value `i` of a part's side, with its subtable.
@@ -180,11 +183,11 @@ impl FrontTable {
     fn slotted(&self, part: u8, side: u8, i: u64) -> Slotted<'_>
         requires { IsSomeAnd (slot_in self.now.index part side) (λ slot. i < slot.size) }
         ensures below { i < result.slot.size }
-        ensures head { IsShapedHead result.placed.now.sub result.slot.size }
-        ensures index { HasSoundIndex result.placed.now.sub result.slot.size }
+        ensures head { IsHeaded result.placed.now.sub }
+        ensures index { IsLocatable result.placed.now.sub result.slot.size }
         ensures inside { result.placed.now.first + blocks_size result.placed.now.sub ≤ self.now.length }
         ensures short { self.now.length < 2 ^ 64 }
-        ensures front { (content : List ℕ) → IsFrontOf self.now content → front_at self.now.index.material self.now.index.kind content part side ≡ Some (result.slot, whole_sub content result.placed.now) }
+        ensures front { (content : List ℕ) (h : IsFrontOf self.now content) → IsKeptIn h.all (front_at self.now.index.material self.now.index.kind content part side) content result.slot result.placed.now }
     {
         let Some(found) = slotted_at(self.index.slots(), &self.subs, part, side) else {
             unreachable!()

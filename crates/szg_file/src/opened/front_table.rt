@@ -1,6 +1,6 @@
 //! Tables opened by their front alone: headers, maps, sparse indexes and block lengths are read and checked. A
 //! block is verified when it is fetched.
-ghost use Rattle.std.specs.Prelude.{ℕ, List, ◌≡◌, ◌≤◌, ◌<◌, ◌^◌, [], IfErr, IfOk, IfSome, IsErrOf, IsTrue, length, map};
+ghost use Rattle.std.specs.Prelude.{ℕ, Bool, List, ◌≡◌, ◌≤◌, ◌<◌, ◌^◌, [], IfErr, IfOk, IfSome, IsErrOf, IsTrue, length, map};
 ghost use Rattle.szg_io.specs.Device.{HasFailed};
 ghost use Rattle.szg_file.specs.Contents.{slots};
 ghost use Rattle.szg_file.specs.Format.{verdict};
@@ -8,7 +8,8 @@ ghost use Rattle.szg_file.specs.FrontInput.{IsFrontFault, IsFrontRead, IsFrontVe
 ghost use Rattle.szg_file.specs.FrontRead.{front_read};
 ghost use Rattle.szg_file.specs.FrontTable.{IsFrontOf};
 ghost use Rattle.szg_file.specs.Held.{part_of};
-ghost use Rattle.szg_file.specs.InPlace.{EndAt};
+ghost use Rattle.szg_file.specs.InPlace.{IsWholeFront};
+ghost use Rattle.szg_file.specs.Kept.{BeginsWithKept};
 ghost use Rattle.szg_file.specs.Unread.{BeginsWithFront, unread_file};
 
 use crate::fault::{ReadFault, Reason};
@@ -93,15 +94,15 @@ fn front_table(
     read: FrontRead,
     place: u64,
 ) -> Result<FrontTable, ReadFault>
-    requires known { (content : List ℕ) × (length content ≡ size) × BeginsWithFront material kind (front_read read) place content }
+    requires known { (all : Bool) × (content : List ℕ) × (length content ≡ size) × BeginsWithKept all material kind (front_read read) place content }
     requires slots { read.parts.slots.items ≡ slots material kind (map part_of read.parts.bytes.items) }
     requires few { length read.measured.items ≤ 8 }
     requires place { place < 2 ^ 42 }
     ensures material { IfOk result (λ t. t.index.material ≡ material) }
     ensures kind { IfOk result (λ t. t.index.kind ≡ kind) }
-    ensures table { IfOk result (λ t. (content : List ℕ) → length content ≡ size → BeginsWithFront material kind (front_read read) place content → IsFrontOf t content) }
-    ensures lists { IfOk result (λ t. (content : List ℕ) → length content ≡ size → BeginsWithFront material kind (front_read read) place content → EndAt content t.subs place) }
-    ensures refused { IfErr result (λ fault. (content : List ℕ) → length content ≡ size → BeginsWithFront material kind (front_read read) place content → IsFrontFault (verdict (unread_file material kind) 0 content) fault) }
+    ensures table { IfOk result (λ t. (all : Bool) (content : List ℕ) → length content ≡ size → BeginsWithKept all material kind (front_read read) place content → IsFrontOf t content) }
+    ensures whole { IfOk result (λ t. (content : List ℕ) → length content ≡ size → BeginsWithFront material kind (front_read read) place content → IsWholeFront t place content) }
+    ensures refused { IfErr result (λ fault. (all : Bool) (content : List ℕ) → length content ≡ size → BeginsWithKept all material kind (front_read read) place content → IsFrontFault (verdict (unread_file material kind) 0 content) fault) }
     ensures never { IsErrOf result ReadFault.Device → ⊥ }
 {
     let FrontRead {
@@ -129,10 +130,41 @@ fn front_table(
     })
 }
 
+/// Opens a table by its front as `open_front` does. Keeps all block lengths if `all`, and otherwise those of the blocks that
+/// begin below their subtable's number of positions.
+pub(crate) fn open_front_with<R: Input>(
+    alloc: Global,
+    material: Material,
+    kind: Kind,
+    size: u64,
+    all: bool,
+    input: &mut R,
+) -> Result<(FrontTable, u64), ReadFault>
+    requires first { R.moved input.old ≡ [] }
+    ensures verdict { IfSome (R.coming input.old) (λ content. length content ≡ size → IsFrontVerdict material kind content result) }
+    ensures whole { IsTrue all → IfOk result (λ opened. IfSome (R.coming input.old) (λ content. length content ≡ size → IsWholeFront opened.0 opened.1 content)) }
+    ensures read { IsFrontRead R.Input material kind size input.old input.new result }
+    ensures device { IsErrOf result ReadFault.Device → HasFailed (R.failures input.old) (R.failures input.new) (R.interrupted input.new) }
+    ensures may_fail { IsErrOf result ReadFault.Device → IsTrue (R.may_fail input.old) }
+    ensures quiet { (IsErrOf result ReadFault.Device → ⊥) → R.failures input.new ≡ R.failures input.old }
+{
+    let mut state = ReaderState::new(alloc);
+    let read = read_front(alloc, &material, kind, all, input, &mut state)?;
+    let place = state.place;
+    if size < place {
+        return Err(ReadFault::Refused {
+            place: size,
+            reason: Reason::Truncated,
+        });
+    }
+    let table = front_table(alloc, material, kind, size, read, place)?;
+    Ok((table, place))
+}
+
 /// Opens a table of this material and kind by its front, from the first byte of a file of `size` bytes. It makes
 /// every check of `read` up to the block lengths, and computes that the file is long enough for the blocks, the
-/// padding and the last sixteen bytes. It reads no byte after the block lengths. Returns the table and the number of
-/// bytes read.
+/// padding and the last sixteen bytes. It reads no byte after the block lengths, and keeps those of the blocks that
+/// begin below their subtable's number of positions. Returns the table and the number of bytes read.
 ///
 /// Errors: `Refused` with the offset and the reason that `read` returns for these checks, or `Truncated` at `size`;
 /// `Device` if the device failed; `Memory` if an allocation was refused.
@@ -146,22 +178,11 @@ pub fn open_front<R: Input>(
     requires first { R.moved input.old ≡ [] }
     // If the reader specifies its bytes, and they are all of the file, the result is the verdict on them.
     ensures verdict { IfSome (R.coming input.old) (λ content. length content ≡ size → IsFrontVerdict material kind content result) }
-    ensures lists { IfOk result (λ opened. IfSome (R.coming input.old) (λ content. length content ≡ size → EndAt content opened.0.subs opened.1)) }
     // In any case: the bytes that were read.
     ensures read { IsFrontRead R.Input material kind size input.old input.new result }
     ensures device { IsErrOf result ReadFault.Device → HasFailed (R.failures input.old) (R.failures input.new) (R.interrupted input.new) }
     ensures may_fail { IsErrOf result ReadFault.Device → IsTrue (R.may_fail input.old) }
     ensures quiet { (IsErrOf result ReadFault.Device → ⊥) → R.failures input.new ≡ R.failures input.old }
 {
-    let mut state = ReaderState::new(alloc);
-    let read = read_front(alloc, &material, kind, true, input, &mut state)?;
-    let place = state.place;
-    if size < place {
-        return Err(ReadFault::Refused {
-            place: size,
-            reason: Reason::Truncated,
-        });
-    }
-    let table = front_table(alloc, material, kind, size, read, place)?;
-    Ok((table, place))
+    open_front_with(alloc, material, kind, size, false, input)
 }

@@ -13,7 +13,7 @@ ghost use Rattle.szg_file.specs.Unread.{unread_file};
 use crate::fault::ReadFault;
 use crate::lookup::{constant_value, slot_number};
 use crate::opened::fetching::{BlockSpot, FetchFault};
-use crate::opened::front_table::{FrontTable, open_front};
+use crate::opened::front_table::{FrontTable, open_front_with};
 use crate::opened::passed::Passed;
 use crate::reading::blocks::{block_bytes, is_constant};
 use crate::reading::dropping::PlacedSub;
@@ -295,7 +295,14 @@ pub fn open_in_place<'a>(
     ensures refused { IfErr result (IsFrontFault (verdict (unread_file material kind) 0 bytes.now)) }
 {
     let size = bytes.len() as u64;
-    let (front, place) = open_front(alloc, material, kind, size, &mut Bytes::new(bytes))?;
+    let (front, place) = open_front_with(
+        alloc,
+        material,
+        kind,
+        size,
+        true,
+        &mut Bytes::new(bytes),
+    )?;
     let FrontTable { index, subs, .. } = front;
     let subs = put_in_place(alloc, subs, bytes, place)?;
     Ok(TableInPlace { index, bytes, subs })

@@ -7,19 +7,19 @@ use Rattle.szg_block.proofs.block_value.checked_value.Goals as goal
 pub overflow_sub-i : goal.overflow_sub-i
 overflow_sub-i c =
     held_within c.args.size c.args.i c.args.location.block c.args.location.item (layout_of c.args.sub.now)
-    (held_at c.args.sub.now c.args.size c.args.i c.args.location.block c.args.location.item c.requires.head c.requires.index c.requires.below c.requires.at_block c.requires.at_item)
+    (held_at (layout_of c.args.sub.now) c.args.size c.args.i c.args.location.block c.args.location.item c.requires.index c.requires.below c.requires.at_block c.requires.at_item)
 
 pub needed_in-needed-requires : goal.needed_in-needed-requires
 needed_in-needed-requires c =
     record {
       before = held_before c.args.size c.args.i c.args.location.block c.args.location.item (layout_of c.args.sub.now)
-          (held_at c.args.sub.now c.args.size c.args.i c.args.location.block c.args.location.item c.requires.head c.requires.index c.requires.below c.requires.at_block c.requires.at_item);
+          (held_at (layout_of c.args.sub.now) c.args.size c.args.i c.args.location.block c.args.location.item c.requires.index c.requires.below c.requires.at_block c.requires.at_item);
     }
 
 pub find_verified-requires-clause-within : goal.find_verified-requires-clause-within
 find_verified-requires-clause-within c =
     let needs = rw c.in-Pairs.is at c.needed_in-needed.ensures in
-    let held = rw c.in-Pairs.is at (held_at c.args.sub.now c.args.size c.args.i c.args.location.block c.args.location.item c.requires.head c.requires.index c.requires.below c.requires.at_block c.requires.at_item) in
+    let held = rw c.in-Pairs.is at (held_at (layout_of c.args.sub.now) c.args.size c.args.i c.args.location.block c.args.location.item c.requires.index c.requires.below c.requires.at_block c.requires.at_item) in
     omega (arith, needs, held.inside)
 
 pub returns-in-Some-clause-verified : goal.returns-in-Some-clause-verified

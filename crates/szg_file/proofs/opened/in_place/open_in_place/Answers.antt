@@ -1,10 +1,10 @@
-use Rattle.std.proofs.Common.{◌≡◌, List, ℕ, Err, true, false, length, ap, sym, subst}
+use Rattle.std.proofs.Common.{◌≡◌, List, ℕ, Err, true, false, length, refl, ap, sym, subst}
 use Rattle.std.specs.Prelude.{Result}
 use Rattle.std.proofs.lemmas.Result.{err_from_is_err_and}
 use Rattle.szg_file.specs.Accepted.{SideBySide}
 use Rattle.szg_file.specs.FrontInput.{IsFrontVerdict}
 use Rattle.szg_file.specs.FrontTable.{FrontKept, IsFrontOf}
-use Rattle.szg_file.specs.InPlace.{EndAt, Stands}
+use Rattle.szg_file.specs.InPlace.{EndAt, IsWholeFront, Stands}
 use Rattle.szg_file.specs.declared.fault.ReadFault.{ReadFault}
 use Rattle.szg_file.specs.declared.reading.dropping.PlacedSub.{PlacedSub}
 use Rattle.szg_file.proofs.Openings.InPlaceLaws.{front_fault}
@@ -21,15 +21,17 @@ returns-in_err-front-clause-refused c =
 pub put_in_place-requires : goal.put_in_place-requires
 put_in_place-requires c =
     let long : length c.new.result.left.now ≡ length c.args.bytes.now = ap (λ (z : List ℕ). length z) c.new.ensures.left in
-    subst (λ (l : List PlacedSub). EndAt c.args.bytes.now l c.in_ok-front.place) (sym (ap (λ (k : FrontKept). k.subs) c.front.view_is))
-    (subst (λ (bs : List ℕ). EndAt bs c.in_ok-front.front.subs c.in_ok-front.place) c.new.ensures.left (c.in_ok-front.ensures.lists long))
+    let seen : IsWholeFront c.in_ok-front.front c.in_ok-front.place c.args.bytes.now = subst (λ (bs : List ℕ). IsWholeFront c.in_ok-front.front c.in_ok-front.place bs) c.new.ensures.left (c.in_ok-front.ensures.whole refl long) in
+    subst (λ (l : List PlacedSub). EndAt c.args.bytes.now l c.in_ok-front.place) (sym (ap (λ (k : FrontKept). k.subs) c.front.view_is)) seen.lists
 
 pub invariant_of-result : goal.invariant_of-result
 invariant_of-result c =
     let long : length c.new.result.left.now ≡ length c.args.bytes.now = ap (λ (z : List ℕ). length z) c.new.ensures.left in
+    let seen : IsWholeFront c.in_ok-front.front c.in_ok-front.place c.args.bytes.now = subst (λ (bs : List ℕ). IsWholeFront c.in_ok-front.front c.in_ok-front.place bs) c.new.ensures.left (c.in_ok-front.ensures.whole refl long) in
     record {
       kept = c.in_ok-front.front;
-      front = subst (λ (bs : List ℕ). IsFrontOf c.in_ok-front.front bs) c.new.ensures.left (c.in_ok-front.ensures.verdict long);
+      front = seen.front;
+      whole = seen.whole;
       index_is = sym (ap (λ (k : FrontKept). k.index) c.front.view_is);
       subs_are = subst (λ (l : List PlacedSub). SideBySide Stands l c.in_ok-subs.subs.items) (ap (λ (k : FrontKept). k.subs) c.front.view_is) c.in_ok-subs.ensures;
     }

@@ -1,14 +1,15 @@
-use Rattle.std.proofs.Common.{arith, Ok, Err}
+use Rattle.std.proofs.Common.{◌≡◌, Bool, subst, arith, Ok, Err}
 use Rattle.std.proofs.lemmas.Result.{err_from_is_err_and}
 use Rattle.szg_file.specs.FrontRead.{front_read}
-use Rattle.szg_file.specs.InPlace.{EndAt}
+use Rattle.szg_file.specs.InPlace.{IsWholeFront}
+use Rattle.szg_file.specs.Kept.{kept_front, ReadingOf}
 use Rattle.szg_file.specs.Unread.{FrontRead, front_field}
 use Rattle.szg_file.specs.declared.fault.Reason.TheVariants.{Truncated}
 use Rattle.szg_file.specs.declared.fault.ReadFault.TheVariants.{Refused}
 use Rattle.szg_file.proofs.Openings.EndLaws.{coming_front}
 use Rattle.szg_file.proofs.Openings.FrontInputs.{front_known, front_late, front_longer, front_opened, front_stopped, front_verdict}
 use Rattle.szg_file.proofs.Readers.KeptReads.{fault_seen, whole_reading}
-use Rattle.szg_file.proofs.opened.front_table.open_front.Goals as goal
+use Rattle.szg_file.proofs.opened.front_table.open_front_with.Goals as goal
 
 -- ---- the front is not read to its end
 
@@ -28,36 +29,36 @@ returns-in_err-read-clause-read g c =
 pub returns-then-size-place-clause-verdict : goal.returns-then-size-place-clause-verdict
 returns-then-size-place-clause-verdict g c =
     front_verdict c.args.material c.args.kind g.R.Input c.args.size c.args.input.now c.read_front.new.input (Err (Refused c.args.size Truncated))
-    (front_longer c.args.material c.args.kind g.R.Input c.in_ok-read.read c.args.size c.new-state.result c.read_front.new.state c.args.input.now c.read_front.new.input c.new-state.ensures.place (whole_reading (front_field c.args.material c.args.kind) front_read c.in_ok-read.read c.in_ok-read.ensures.front) (omega arith))
+    (front_longer c.args.material c.args.kind g.R.Input c.args.all c.in_ok-read.read c.args.size c.new-state.result c.read_front.new.state c.args.input.now c.read_front.new.input c.new-state.ensures.place c.in_ok-read.ensures.front (omega arith))
 
 -- ---- the file is long enough for it
 
 pub front_table-requires-clause-known : goal.front_table-requires-clause-known
 front_table-requires-clause-known g c =
-    let h = (whole_reading (front_field c.args.material c.args.kind) front_read c.in_ok-read.read c.in_ok-read.ensures.front) in
-    front_known c.args.material c.args.kind (front_read c.in_ok-read.read) c.new-state.result c.read_front.new.state h.bytes c.args.size c.new-state.ensures.place h.answer.0 (search)
+    front_known c.args.material c.args.kind g.R.Input c.args.all c.in_ok-read.read c.args.size c.new-state.result c.read_front.new.state c.args.input.now c.read_front.new.input c.new-state.ensures.place c.in_ok-read.ensures.front (omega arith)
 
 pub returns-in_err-table-clause-verdict : goal.returns-in_err-table-clause-verdict
 returns-in_err-table-clause-verdict g c =
     let p = err_from_is_err_and c.from_residual-in_err-table.result c.from_residual-in_err-table.ensures.1 in
     rw (p.1, p.2) (front_verdict c.args.material c.args.kind g.R.Input c.args.size c.args.input.now c.read_front.new.input (Err c.in_err-table.field-0.0)
-    (front_late c.args.material c.args.kind g.R.Input c.in_ok-read.read c.args.size c.new-state.result c.read_front.new.state c.args.input.now c.read_front.new.input c.new-state.ensures.place (whole_reading (front_field c.args.material c.args.kind) front_read c.in_ok-read.read c.in_ok-read.ensures.front) c.in_err-table.field-0.0 (omega arith) c.in_err-table.ensures.refused))
+    (front_late c.args.material c.args.kind g.R.Input c.args.all c.in_ok-read.read c.args.size c.new-state.result c.read_front.new.state c.args.input.now c.read_front.new.input c.new-state.ensures.place c.in_ok-read.ensures.front c.in_err-table.field-0.0 (omega arith) c.in_err-table.ensures.refused))
 
 pub returns-in_err-table-clause-read : goal.returns-in_err-table-clause-read
 returns-in_err-table-clause-read g c =
     let p = err_from_is_err_and c.from_residual-in_err-table.result c.from_residual-in_err-table.ensures.1 in
-    rw (p.1, p.2) (front_late c.args.material c.args.kind g.R.Input c.in_ok-read.read c.args.size c.new-state.result c.read_front.new.state c.args.input.now c.read_front.new.input c.new-state.ensures.place (whole_reading (front_field c.args.material c.args.kind) front_read c.in_ok-read.read c.in_ok-read.ensures.front) c.in_err-table.field-0.0 (omega arith) c.in_err-table.ensures.refused)
+    rw (p.1, p.2) (front_late c.args.material c.args.kind g.R.Input c.args.all c.in_ok-read.read c.args.size c.new-state.result c.read_front.new.state c.args.input.now c.read_front.new.input c.new-state.ensures.place c.in_ok-read.ensures.front c.in_err-table.field-0.0 (omega arith) c.in_err-table.ensures.refused)
 
 pub returns-clause-verdict : goal.returns-clause-verdict
 returns-clause-verdict g c =
     front_verdict c.args.material c.args.kind g.R.Input c.args.size c.args.input.now c.read_front.new.input (Ok (c.in_ok-table.table, c.read_front.new.state.place))
-    (front_opened c.args.material c.args.kind g.R.Input c.in_ok-read.read c.args.size c.new-state.result c.read_front.new.state c.args.input.now c.read_front.new.input c.new-state.ensures.place (whole_reading (front_field c.args.material c.args.kind) front_read c.in_ok-read.read c.in_ok-read.ensures.front) c.in_ok-table.table (omega arith) c.in_ok-table.ensures.material c.in_ok-table.ensures.kind c.in_ok-table.ensures.table)
+    (front_opened c.args.material c.args.kind g.R.Input c.args.all c.in_ok-read.read c.args.size c.new-state.result c.read_front.new.state c.args.input.now c.read_front.new.input c.new-state.ensures.place c.in_ok-read.ensures.front c.in_ok-table.table (omega arith) c.in_ok-table.ensures.material c.in_ok-table.ensures.kind c.in_ok-table.ensures.table)
 
 pub returns-clause-read : goal.returns-clause-read
 returns-clause-read g c =
-    front_opened c.args.material c.args.kind g.R.Input c.in_ok-read.read c.args.size c.new-state.result c.read_front.new.state c.args.input.now c.read_front.new.input c.new-state.ensures.place (whole_reading (front_field c.args.material c.args.kind) front_read c.in_ok-read.read c.in_ok-read.ensures.front) c.in_ok-table.table (omega arith) c.in_ok-table.ensures.material c.in_ok-table.ensures.kind c.in_ok-table.ensures.table
+    front_opened c.args.material c.args.kind g.R.Input c.args.all c.in_ok-read.read c.args.size c.new-state.result c.read_front.new.state c.args.input.now c.read_front.new.input c.new-state.ensures.place c.in_ok-read.ensures.front c.in_ok-table.table (omega arith) c.in_ok-table.ensures.material c.in_ok-table.ensures.kind c.in_ok-table.ensures.table
 
-pub returns-clause-lists : goal.returns-clause-lists
-returns-clause-lists g c =
-    coming_front (λ content. EndAt content c.in_ok-table.table.subs c.read_front.new.state.place) c.args.material c.args.kind g.R.Input c.in_ok-read.read c.args.size c.new-state.result c.read_front.new.state c.args.input.now c.read_front.new.input
-    c.new-state.ensures.place (whole_reading (front_field c.args.material c.args.kind) front_read c.in_ok-read.read c.in_ok-read.ensures.front) c.in_ok-table.ensures.lists
+pub returns-clause-whole : goal.returns-clause-whole
+returns-clause-whole g c = λ all.
+    let seen = subst (λ (kept : Bool). ReadingOf (front_field c.args.material c.args.kind) (λ whole r. front_read r ≡ kept_front kept whole) c.new-state.result c.read_front.new.state g.R.Input c.args.input.now c.read_front.new.input (Ok c.in_ok-read.read)) all c.in_ok-read.ensures.front in
+    coming_front (λ content. IsWholeFront c.in_ok-table.table c.read_front.new.state.place content) c.args.material c.args.kind g.R.Input c.in_ok-read.read c.args.size c.new-state.result c.read_front.new.state c.args.input.now c.read_front.new.input
+    c.new-state.ensures.place (whole_reading (front_field c.args.material c.args.kind) front_read c.in_ok-read.read seen) c.in_ok-table.ensures.whole
