@@ -1,5 +1,6 @@
 pub mod Captures
 pub mod Classes
+pub mod Counted
 pub mod Passing
 pub mod Certificate
 pub mod Probed

@@ -1,6 +1,6 @@
 -- The walk over the positions of a material. It leaves out images.
-use Rattle.std.specs.Prelude.{ℕ, ◌≡◌, ◌+◌, ◌*◌, ◌≤◌, ◌<◌, ◌%◌, ◌/◌, ◌^◌, nat_le, Bool, not, count_by, ◌&&◌, ◌||◌, List, [], ◌∷◌, ◌++◌, map, length, Some, None, IsTrue, Contains, if◌then◌else◌, IsFalse}
-use Rattle.std.specs.List.{list_any}
+use Rattle.std.specs.Prelude.{ℕ, ◌≡◌, ◌+◌, ◌*◌, ◌≤◌, ◌<◌, ◌%◌, ◌/◌, ◌^◌, ◌-◌, nat_le, Bool, not, is_none, sum_by, min, take, slice_get, count_by, ◌&&◌, ◌||◌, List, [], ◌∷◌, ◌++◌, map, length, Some, None, IsTrue, Contains, if◌then◌else◌, IsFalse}
+use Rattle.std.specs.List.{list_any, range_with_len}
 use Rattle.szg_values.specs.Men.{man_at, color_at, is_man, is_color, file_of, rank_of}
 use Rattle.szg_values.specs.Material.{Sides}
 use Rattle.szg_values.specs.Placement.{PlacedMan}
@@ -9,7 +9,7 @@ use Rattle.szg_values.specs.declared.Man.TheVariants.{Pawn}
 use Rattle.szg_values.specs.declared.Color.{Color}
 use Rattle.szg_values.specs.declared.Color.TheVariants.{White, Black}
 use Rattle.szg_game.specs.declared.Class.{Class}
-use Rattle.szg_chess.specs.Position.{Position, IsPosition}
+use Rattle.szg_chess.specs.Position.{Position, IsPosition, position_fault}
 use Rattle.szg_probe.specs.Chess.{ChessClass}
 use Rattle.szg_probe.specs.Probing.{probed}
 use Rattle.szg_verify.specs.Entries.{StoredTables}
@@ -62,6 +62,33 @@ abbrev pub IsRangeChecked : StoredTables → Sides → ℕ → ℕ → Type 0
 IsRangeChecked tables sides from to = (number : ℕ) (mover : Color) → from ≤ number → number < to → IsTrue (is_king_walked (colored_men sides) (number % 64)) →
     IsPosition (position_by number (colored_men sides) mover) → IsTrue (is_checked tables (position_by number (colored_men sides) mover))
 
+-- The men and the side to move are a position, if the squares are on the board.
+abbrev pub is_position : Position → Bool
+is_position p = is_none (position_fault p)
+
+-- The sides to move with which the men of a number are checked, White first, up to this one.
+abbrev pub movers_to : Color → List Color
+movers_to White = White ∷ []
+movers_to Black = White ∷ Black ∷ []
+
+-- how many positions a number places, with these sides to move
+abbrev pub positions_by : List (Man × Color) → List Color → ℕ → ℕ
+positions_by men movers number = count_by (λ mover. is_position (position_by number men mover)) movers
+
+-- How many positions the numbers from `from` to `to` place, `to` left out, if White's king is on a walked square, with each
+-- side to move.
+unfoldable pub position_count : List (Man × Color) → ℕ → ℕ → ℕ
+position_count men from to =
+    sum_by (λ number. if is_king_walked men (number % 64) then positions_by men (White ∷ Black ∷ []) number else 0) (range_with_len from (to - from))
+
+-- how many positions are checked up to the one that a number places with this side to move, from the number `from` on
+abbrev pub count_to : List (Man × Color) → ℕ → ℕ → Color → ℕ
+count_to men from number mover = position_count men from number + positions_by men (movers_to mover) number
+
+-- how many positions of a material are walked
+abbrev pub material_count : Sides → ℕ
+material_count sides = position_count (colored_men sides) 0 (number_count (colored_men sides))
+
 -- A position of these men is not accepted, since it breaks the condition.
 pub record IsRefused (tables : StoredTables) (men : List PlacedMan) (p : Position) (c : Condition) : Type 0 where
   pub placed : p ≡ record { placed_men = men; mover = p.mover; en_passant = None }
@@ -81,6 +108,11 @@ pub record IsFirstRefused (tables : StoredTables) (sides : Sides) (from to numbe
 -- A position of one of the materials, the first of its material that is refused.
 abbrev pub IsRefusedOf : StoredTables → List Sides → ℕ → Position → Condition → Type 0
 IsRefusedOf tables materials number p c = (sides : Sides) × Contains materials sides × IsFirstRefused tables sides 0 (number_count (colored_men sides)) number p c
+
+-- how many positions are checked up to a refused one: those of the materials before one of them, and those of this one up to it
+abbrev pub IsCountTo : List Sides → ℕ → Position → ℕ → Type 0
+IsCountTo materials number p positions = (i : ℕ) × (sides : Sides) × (slice_get materials i ≡ Some sides)
+    × (positions ≡ min (sum_by material_count (take i materials) + count_to (colored_men sides) 0 number p.mover) 18446744073709551615)
 
 -- of each position of the material an image was checked
 abbrev pub IsMaterialChecked : StoredTables → Sides → Type 0

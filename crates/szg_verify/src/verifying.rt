@@ -1,6 +1,6 @@
 //! The verification of the tables of materials.
 
-ghost use Rattle.std.specs.Prelude.{◌≡◌, IfOk, IfSome, IsNone, IsTrue, Contains, Some};
+ghost use Rattle.std.specs.Prelude.{◌≡◌, IfOk, IfSome, IsNone, IsTrue, Contains, Some, min, sum_by};
 ghost use Rattle.szg_values.specs.Material.{Sides};
 ghost use Rattle.szg_game.specs.declared.Class.{Class};
 ghost use Rattle.szg_chess.specs.Position.{Position, IsPosition};
@@ -9,7 +9,7 @@ ghost use Rattle.szg_probe.specs.Probing.{probed};
 ghost use Rattle.szg_verify.specs.Entries.{tables_of};
 ghost use Rattle.szg_verify.specs.Verified.{AreSymmetric};
 ghost use Rattle.szg_verify.specs.Materials.{are_closed, covers};
-ghost use Rattle.szg_verify.specs.Walk.{IsMaterialChecked, IsRefusedOf};
+ghost use Rattle.szg_verify.specs.Walk.{IsCountTo, IsMaterialChecked, IsRefusedOf, material_count};
 
 use crate::{Cell, DtzTables, Walked, Watcher, number_count, verify_range};
 use szg_probe::Tables;
@@ -32,6 +32,9 @@ pub fn verify<T: Tables, D: DtzTables<Fault = T::Fault>, W: Watcher>(
     // returns its class in chess.
     ensures true_classes { IfOk result (λ w. IsNone w.refused → IsTrue (are_closed materials.now) → AreSymmetric (tables_of (T.stored classes.old) (D.distances distances.old)) →
         (p : Position) → IsPosition p → IsTrue (covers materials.now p.placed_men) → (k : Class) × (probed (T.stored classes.old) p ≡ Some k) × ChessClass p k) }
+    // Each position counts once, up to the first that does not pass.
+    ensures counted { IfOk result (λ w. IsNone w.refused → w.positions ≡ min (sum_by material_count materials.now) u64.MAX) }
+    ensures counted_to { IfOk result (λ w. IfSome w.refused (λ r. IsCountTo materials.now r.number r.position w.positions)) }
     ensures refused { IfOk result (λ w. IfSome w.refused (λ r. IsRefusedOf (tables_of (T.stored classes.old) (D.distances distances.old)) materials.now r.number r.position r.condition)) }
 {
     let mut positions: u64 = 0;

@@ -1,6 +1,6 @@
 //! The walk over the positions of a material.
 
-ghost use Rattle.std.specs.Prelude.{◌≡◌, ◌<◌, ◌≤◌, ◌%◌, ◌^◌, ◌&&◌, count_by, length, IfOk, IfSome, IsFalse, IsTrue, IsNone, None};
+ghost use Rattle.std.specs.Prelude.{◌≡◌, ◌<◌, ◌≤◌, ◌%◌, ◌^◌, ◌&&◌, count_by, length, min, IfOk, IfSome, IsFalse, IsTrue, IsNone, None, if◌then◌else◌};
 ghost use Rattle.szg_values.specs.Men.{is_man, is_color};
 ghost use Rattle.szg_values.specs.declared.Color.{Color};
 ghost use Rattle.szg_chess.specs.Laws.{kinds_of};
@@ -8,7 +8,7 @@ ghost use Rattle.szg_chess.specs.Position.{IsPosition};
 ghost use Rattle.szg_verify.specs.Entries.{tables_of};
 ghost use Rattle.szg_verify.specs.Memory.{AreRight};
 ghost use Rattle.szg_verify.specs.Verified.{is_checked};
-ghost use Rattle.szg_verify.specs.Walk.{IsFirstRefused, IsRangeChecked, IsRefused, colored_men, has_lone_pawns, has_pawn, is_walked, number_count, placed_by, position_by, shard_start};
+ghost use Rattle.szg_verify.specs.Walk.{IsFirstRefused, IsRangeChecked, IsRefused, colored_men, count_to, has_lone_pawns, has_pawn, is_position, is_walked, movers_to, number_count, placed_by, position_by, position_count, positions_by, shard_start};
 
 use crate::memory::clear;
 use crate::{Cell, Condition, DtzTables, EntrySteps, check_position};
@@ -93,6 +93,9 @@ pub fn verify_range<T: Tables, D: DtzTables<Fault = T::Fault>, W: Watcher>(
     ensures same_distances { D.distances distances.new ≡ D.distances distances.old }
     ensures checked { IfOk result (λ w. IsNone w.refused → IsRangeChecked (tables_of (T.stored classes.old) (D.distances distances.old)) material.now from to) }
     ensures refused { IfOk result (λ w. IfSome w.refused (λ r. IsFirstRefused (tables_of (T.stored classes.old) (D.distances distances.old)) material.now from to r.number r.position r.condition)) }
+    // Each position counts once, up to the first that does not pass.
+    ensures counted { IfOk result (λ w. IsNone w.refused → w.positions ≡ min (position_count (colored_men material.now) from to) u64.MAX) }
+    ensures counted_to { IfOk result (λ w. IfSome w.refused (λ r. w.positions ≡ min (count_to (colored_men material.now) from r.number r.position.mover) u64.MAX)) }
 {
     clear(cells);
     let colored = colored_men(material);
@@ -183,6 +186,8 @@ fn check_number<T: Tables, D: DtzTables<Fault = T::Fault>>(
     ensures right { AreRight men.now (tables_of (T.stored classes.old) (D.distances distances.old)) cells.new }
     ensures checked { IfOk result (λ w. IsNone w.refused → (mover : Color) → IsPosition (position_by number men.now mover) → IsTrue (is_checked (tables_of (T.stored classes.old) (D.distances distances.old)) (position_by number men.now mover))) }
     ensures refused { IfOk result (λ w. IfSome w.refused (λ r. (r.number ≡ number) × IsRefused (tables_of (T.stored classes.old) (D.distances distances.old)) (placed_by number men.now) r.position r.condition)) }
+    ensures counted { IfOk result (λ w. IsNone w.refused → w.positions ≡ positions_by men.now (movers_to Color.Black) number) }
+    ensures counted_to { IfOk result (λ w. IfSome w.refused (λ r. w.positions ≡ positions_by men.now (movers_to r.position.mover) number)) }
 {
     let placed = place(number, men);
     let white = match check_placed(
@@ -236,6 +241,8 @@ fn check_placed<T: Tables, D: DtzTables<Fault = T::Fault>>(
     ensures right { AreRight (kinds_of placed.now) (tables_of (T.stored classes.old) (D.distances distances.old)) cells.new }
     ensures checked { IfOk result (λ w. IsNone w.refused → IsPosition (record { placed_men = placed.now; mover = mover; en_passant = None }) → IsTrue (is_checked (tables_of (T.stored classes.old) (D.distances distances.old)) (record { placed_men = placed.now; mover = mover; en_passant = None }))) }
     ensures refused { IfOk result (λ w. IfSome w.refused (λ r. (r.number ≡ number) × IsRefused (tables_of (T.stored classes.old) (D.distances distances.old)) placed.now r.position r.condition)) }
+    ensures mover { IfOk result (λ w. IfSome w.refused (λ r. r.position.mover ≡ mover)) }
+    ensures counted { IfOk result (λ w. w.positions ≡ (if is_position (record { placed_men = placed.now; mover = mover; en_passant = None }) then 1 else 0)) }
 {
     let position = match Position::new(placed, mover, None) {
         Ok(position) => position,

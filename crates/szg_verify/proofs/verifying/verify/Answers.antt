@@ -1,8 +1,9 @@
-use Rattle.std.proofs.Common.{ℕ, List, sym, ◌∙◌, subst, arith, inl, inr, Contains}
+use Rattle.std.proofs.Common.{◌≡◌, ℕ, List, min, get_or, ap, sym, ◌∙◌, subst, arith, inl, inr, Contains}
 use Rattle.std.proofs.lemmas.List.{take_all}
+use Rattle.std.proofs.lemmas.List.Sums.{sum_by_more}
 use Rattle.szg_values.specs.Material.{Sides}
 use Rattle.szg_verify.specs.Entries.{StoredTables, tables_of}
-use Rattle.szg_verify.specs.Walk.{IsMaterialChecked, IsRangeChecked}
+use Rattle.szg_verify.specs.Walk.{IsMaterialChecked, IsRangeChecked, colored_men, material_count, position_count}
 use Rattle.szg_verify.proofs.Kept.{carried}
 use Rattle.szg_verify.proofs.Whole.{one_more, verified_is_true, walk_is_whole}
 use Rattle.szg_verify.proofs.verifying.verify.Goals as goal
@@ -24,6 +25,13 @@ loop-material-preserved g c =
             (subst (λ (n : ℕ). IsRangeChecked (tables_of here_classes here_distances) c.material-item.result 0 n) c.number_count-count.ensures.count (c.in-Ok.ensures.checked (sym c.is_some.ensures ∙ c.if-is_some.false)))))
         | inr more ↦ before.checked sides more
       ];
+      counted =
+          let more = sum_by_more material_count c.args.materials.now c.loop-material.material-index c.material-item.result c.loop-material-test.true in
+          let here : c.in-Ok.walked.positions ≡ min (position_count (colored_men c.material-item.result) 0 c.number_count-count.result) 18446744073709551615 =
+          c.in-Ok.ensures.counted (sym c.is_some.ensures ∙ c.if-is_some.false) in
+          let whole : material_count (get_or c.args.materials.now c.loop-material.material-index c.material-item.result) ≡ position_count (colored_men c.material-item.result) 0 c.number_count-count.result =
+          ap material_count (sym c.material-item.is) ∙ ap (λ (n : ℕ). position_count (colored_men c.material-item.result) 0 n) (sym c.number_count-count.ensures.count) in
+          omega (arith, more, here, whole, before.counted, c.saturating_add-positions.ensures);
     }
 
 pub returns-clause-checked : goal.returns-clause-checked
