@@ -1,13 +1,13 @@
 //! The verification of tables in memory.
 
-ghost use Rattle.std.specs.Prelude.{◌≡◌, Err, IfErr, IfOk, IfSome, IsFalse, IsNone, IsTrue, Some};
+ghost use Rattle.std.specs.Prelude.{◌≡◌, Err, IfErr, IfOk, IfSome, IsFalse, IsNone, IsTrue, Some, min, sum_by};
 ghost use Rattle.szg_chess.specs.Position.{Position, IsPosition};
 ghost use Rattle.szg_game.specs.declared.Class.{Class};
 ghost use Rattle.szg_probe.specs.Chess.{ChessClass};
 ghost use Rattle.szg_probe.specs.Probing.{probed};
 ghost use Rattle.szg_verify.specs.Entries.{tables_of};
 ghost use Rattle.szg_verify.specs.Materials.{are_closed, covers};
-ghost use Rattle.szg_verify.specs.Walk.{IsRefusedOf};
+ghost use Rattle.szg_verify.specs.Walk.{IsCountTo, IsRefusedOf, material_count};
 ghost use Rattle.szg_tables.specs.Distances.{stored_distances};
 ghost use Rattle.szg_tables.specs.Stored.{stored_classes};
 
@@ -46,6 +46,9 @@ pub fn verify_tables<W: Watcher>(
         (k : Class) × (probed (stored_classes tables.now) p ≡ Some k) × ChessClass p k) }
     // A refused position is one of the materials, the first of its material, and breaks the condition.
     ensures refused { IfOk result (λ w. IfSome w.refused (λ r. IsRefusedOf (tables_of (stored_classes tables.now) (stored_distances tables.now)) materials.now r.number r.position r.condition)) }
+    // Each position counts once, up to the first that does not pass.
+    ensures counted { IfOk result (λ w. IsNone w.refused → w.positions ≡ min (sum_by material_count materials.now) u64.MAX) }
+    ensures counted_to { IfOk result (λ w. IfSome w.refused (λ r. IsCountTo materials.now r.number r.position w.positions)) }
     ensures not_closed { IsFalse (are_closed materials.now) → result ≡ Err VerifyFault.NotClosed }
     ensures missing { IsTrue (are_closed materials.now) → IfErr result (λ fault. (missing : Missing) × (fault ≡ VerifyFault.Missing missing)) }
 {
