@@ -1,5 +1,5 @@
 -- Subtables of which only those block lengths are kept that the values need.
-use Rattle.std.specs.Prelude.{ℕ, ◌≡◌, suc, ◌+◌, ◌-◌, ◌<◌, ◌≤◌, ◌⊎◌, List, [], ◌∷◌, IfSome, length, nat_lt, slice_get, if◌then◌else◌}
+use Rattle.std.specs.Prelude.{ℕ, Bool, true, false, ◌≡◌, suc, ◌+◌, ◌-◌, ◌<◌, ◌≤◌, ◌⊎◌, List, [], ◌∷◌, IfSome, length, nat_lt, slice_get, if◌then◌else◌}
 use Rattle.szg_block.specs.Block.{start}
 use Rattle.szg_block.specs.Layout.{Layout}
 use Rattle.szg_block.specs.Sound.{entry_count, middle_of_span, HasTotal}
@@ -10,6 +10,11 @@ use Rattle.szg_block.specs.declared.Sub.{Sub}
 unfoldable pub kept_lengths : ℕ → List ℕ → List ℕ
 kept_lengths size [] = []
 kept_lengths size (n ∷ lengths) = if nat_lt 0 size then (n ∷ kept_lengths (size - (n + 1)) lengths) else []
+
+-- all lengths, or those of the blocks that begin below `size`
+abbrev pub kept_if : Bool → ℕ → List ℕ → List ℕ
+kept_if true size lengths = lengths
+kept_if false size lengths = kept_lengths size lengths
 
 -- the layout with these block lengths
 abbrev pub with_lengths : List ℕ → Layout → Layout
@@ -47,9 +52,9 @@ pub record CanLocate (layout : Layout) (size : ℕ) : Type 0 where
 abbrev pub IsLocatable : Sub → ℕ → Type 0
 IsLocatable sub size = IfSome (layout_of sub) (λ layout. CanLocate layout size)
 
--- of the lengths `whole` the layout has those of the blocks that begin below `size`; `before_last` values come before the
--- block of the last sparse entry
-pub record IsKeptOf (layout : Layout) (size before_last : ℕ) (whole : List ℕ) : Type 0 where
-  pub lengths : layout.lengths ≡ kept_lengths size whole
-  pub all : length whole ≡ layout.blocks + layout.extra
+-- of the lengths `whole` the layout has all, or those of the blocks that begin below `size`; `before_last` values come before
+-- the block of the last sparse entry
+pub record IsKeptOf (all : Bool) (layout : Layout) (size before_last : ℕ) (whole : List ℕ) : Type 0 where
+  pub lengths : layout.lengths ≡ kept_if all size whole
+  pub many : length whole ≡ layout.blocks + layout.extra
   pub before : (j : ℕ) → suc j ≡ length layout.sparse → IfSome (slice_get layout.sparse j) (λ entry. before_last ≡ start whole entry.block)

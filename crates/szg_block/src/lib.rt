@@ -7,7 +7,7 @@
 //! where the subtable ends within it.
 #![tactic(auto)]
 
-ghost use Rattle.std.specs.Prelude.{ℕ, ◌≡◌, ◌+◌, ◌<◌, ◌≤◌, ◌↔◌, ◌^◌, ◌/◌, ◌%◌, Err, List, IsTrue, IfErr, IfNone, IfSome, IsSomeAnd, OnOk, length};
+ghost use Rattle.std.specs.Prelude.{ℕ, Bool, ◌≡◌, ◌+◌, ◌<◌, ◌≤◌, ◌↔◌, ◌^◌, ◌/◌, ◌%◌, Err, List, IsTrue, IfErr, IfNone, IfSome, IsSomeAnd, OnOk, length};
 ghost use Rattle.szg_block.specs.Block.{needed, start};
 ghost use Rattle.szg_block.specs.Kept.{with_lengths, IsKeptOf};
 ghost use Rattle.szg_block.specs.Sound.{HasGoodEntry, HasTotal, SpellsNeeded, entry_count as entry_count_of};
@@ -233,16 +233,16 @@ fn needed_in(sub: &Sub, size: u64, n: u32, before: u64) -> u64
     needed_from(length.unwrap_or(0), size, before)
 }
 
-/// Checks the lengths and the sparse index as `check_index` does, for a subtable of which only the lengths of the blocks that
-/// begin below `size` are in memory. `before_last` is the number of values before the block of the last sparse entry.
+/// Checks the lengths and the sparse index as `check_index` does, for a subtable of which all lengths are in memory, or only those
+/// of the blocks that begin below `size`. `before_last` is the number of values before the block of the last sparse entry.
 pub fn check_kept_index(sub: &Sub, size: u64, before_last: u64) -> Result<(), SubFault>
     requires indexed { IsIndexed sub.now size }
     requires few { IfSome (layout_of sub.now) (λ layout. length layout.lengths < 2 ^ 33) }
     requires before { before_last < 2 ^ 62 }
     requires size { size < 2 ^ 33 }
     ensures entry { (k : ℕ) → result ≡ Err (SubFault.SparseEntry k) → IfSome (layout_of sub.now) (λ layout. k < length layout.sparse) }
-    ensures ok { OnOk result (IfSome (layout_of sub.now) (λ layout. (whole : List ℕ) → IsKeptOf layout size before_last whole → HasTotal (with_lengths whole layout) size × ((j : ℕ) → HasGoodEntry (with_lengths whole layout) j))) }
-    ensures fault { IfErr result (λ fault. IsIndexFault fault × IsSomeAnd (layout_of sub.now) (λ layout. (whole packed : List ℕ) → IsKeptOf layout size before_last whole → IsLayoutFault (with_lengths whole layout) packed size fault)) }
+    ensures ok { OnOk result (IfSome (layout_of sub.now) (λ layout. (all : Bool) (whole : List ℕ) → IsKeptOf all layout size before_last whole → HasTotal (with_lengths whole layout) size × ((j : ℕ) → HasGoodEntry (with_lengths whole layout) j))) }
+    ensures fault { IfErr result (λ fault. IsIndexFault fault × IsSomeAnd (layout_of sub.now) (λ layout. (all : Bool) (whole packed : List ℕ) → IsKeptOf all layout size before_last whole → IsLayoutFault (with_lengths whole layout) packed size fault)) }
 {
     let Sub::Pairs {
         span_bits,

@@ -43,16 +43,16 @@ kept_contents all t = record {
   last = t.last;
 }
 
--- a subtable that is read up to its block lengths, of which it has those of the blocks that begin below its number of
+-- a subtable that is read up to its block lengths, of which it has all, or those of the blocks that begin below its number of
 -- positions
-abbrev pub kept_begun : Begun → Begun
-kept_begun begun = record { slot = begun.slot; subtable = kept_of begun.slot.size begun.subtable; index = begun.index }
+abbrev pub kept_begun : Bool → Begun → Begun
+kept_begun all begun = record { slot = begun.slot; subtable = kept_sub all begun.slot.size begun.subtable; index = begun.index }
 
 -- the subtables of a front, each with all block lengths, or with those of the blocks that begin below its number of
 -- positions
 abbrev pub kept_measured : Bool → List Begun → List Begun
 kept_measured true list = list
-kept_measured false list = map kept_begun list
+kept_measured false list = map (kept_begun false) list
 
 -- the same for a front
 abbrev pub kept_front : Bool → FrontRead → FrontRead
@@ -66,8 +66,8 @@ pub record BeginsWithKept (all : Bool) (material : Sides) (kind : Kind) (read : 
   pub begins : BeginsWithFront material kind whole place content
 
 -- all block lengths are read and checked
-abbrev pub kept_field : Begun → Format Begun
-kept_field begun = lengths_field begun >>= λ measured. means (kept_begun measured)
+abbrev pub kept_field : Bool → Begun → Format Begun
+kept_field all begun = lengths_field begun >>= λ measured. means (kept_begun all measured)
 
 -- The text of a format was read; what is returned is not all of its meaning, but in this relation to it.
 abbrev pub ReadingOf : {A X R : Type 0} → Format A → (A → X → Type 0) → ReaderState → ReaderState → Ghosts R → R → R → Result X ReadFault → Type 0
@@ -75,8 +75,8 @@ ReadingOf {A = A} {X = X} f Is old new dev input input' (Ok x) = (a : A) × Is a
 ReadingOf {A = A} f Is old new dev input input' (Err fault) = Reading f (λ (a : A). a) old new dev input input' (Err fault)
 
 -- the state of a reader after the block lengths `list`
-pub record IsKept (size last : ℕ) (list : List ℕ) (kept : KeptLengths) : Type 0 where
-  pub lengths : kept.lengths.items ≡ kept_lengths size list
-  pub values : kept.values ≡ sum_by (λ n. n + 1) (kept_lengths size list)
+pub record IsKept (limit last : ℕ) (list : List ℕ) (kept : KeptLengths) : Type 0 where
+  pub lengths : kept.lengths.items ≡ kept_lengths limit list
+  pub values : kept.values ≡ sum_by (λ n. n + 1) (kept_lengths limit list)
   pub seen : kept.seen ≡ length list
   pub before : kept.before_last ≡ start list last

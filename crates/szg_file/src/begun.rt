@@ -89,7 +89,7 @@ impl Model for Measured {
 /// The state of a reader of block lengths.
 #[derive(Drop)]
 pub struct KeptLengths {
-    /// The lengths of the blocks that begin below the subtable's size.
+    /// The lengths of the blocks that begin below a limit.
     pub lengths: Vec<u16>,
     /// The number of values of these blocks.
     pub values: u64,

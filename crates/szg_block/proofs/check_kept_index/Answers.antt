@@ -15,7 +15,7 @@ returns-then-total-size-clause-fault c =
     let count : length c.in-Pairs.sparse.items ≡ entry_count c.in-Pairs.span_bits c.args.size = sym (length-entries c.in-Pairs.sparse.items) ∙ indexed.1 in
     let m : c.min-count.result ≡ min (length c.in-Pairs.lengths.items) c.in-Pairs.blocks = omega (arith, c.min-count.ensures, c.len.ensures, c.deref.ensures.len, ap (λ (l : List ℕ). length l) c.deref.ensures.value) in
     let t : c.total.result ≡ start c.in-Pairs.lengths.items c.in-Pairs.blocks = start-all c.total.result c.deref.result.now c.in-Pairs.lengths.items c.min-count.result c.in-Pairs.blocks c.total.ensures.sum c.deref.ensures.value m in
-    rw c.in-Pairs.is (tt, λ whole packed kept. short_in_whole c.in-Pairs.block_bits c.in-Pairs.span_bits c.in-Pairs.extra c.in-Pairs.blocks c.in-Pairs.code c.in-Pairs.dict c.in-Pairs.sparse.items c.in-Pairs.lengths.items c.args.size c.args.before_last count whole kept (omega (arith, t, c.if-total-size.true)))
+    rw c.in-Pairs.is (tt, λ keep whole packed kept. short_in_whole c.in-Pairs.block_bits c.in-Pairs.span_bits c.in-Pairs.extra c.in-Pairs.blocks c.in-Pairs.code c.in-Pairs.dict c.in-Pairs.sparse.items c.in-Pairs.lengths.items c.args.size c.args.before_last count keep whole kept (omega (arith, t, c.if-total-size.true)))
 
 pub first_bad_entry-requires-clause-small : goal.first_bad_entry-requires-clause-small
 first_bad_entry-requires-clause-small c =
@@ -33,7 +33,7 @@ returns-in_default-first_bad_entry-clause-ok c =
     let m : c.min-count.result ≡ min (length c.in-Pairs.lengths.items) c.in-Pairs.blocks = omega (arith, c.min-count.ensures, c.len.ensures, c.deref.ensures.len, ap (λ (l : List ℕ). length l) c.deref.ensures.value) in
     let t : c.total.result ≡ start c.in-Pairs.lengths.items c.in-Pairs.blocks = start-all c.total.result c.deref.result.now c.in-Pairs.lengths.items c.min-count.result c.in-Pairs.blocks c.total.ensures.sum c.deref.ensures.value m in
     let all = rw (c.deref-2.ensures.value, c.deref-3.ensures.value) at c.in_default-first_bad_entry.ensures.all in
-    rw c.in-Pairs.is (λ whole kept. (total_in_whole c.in-Pairs.block_bits c.in-Pairs.span_bits c.in-Pairs.extra c.in-Pairs.blocks c.in-Pairs.code c.in-Pairs.dict c.in-Pairs.sparse.items c.in-Pairs.lengths.items c.args.size c.args.before_last count whole kept (omega (arith, t, c.if-total-size.false)), all_in_whole c.in-Pairs.block_bits c.in-Pairs.span_bits c.in-Pairs.extra c.in-Pairs.blocks c.in-Pairs.code c.in-Pairs.dict c.in-Pairs.sparse.items c.in-Pairs.lengths.items c.args.size c.args.before_last count whole kept all))
+    rw c.in-Pairs.is (λ keep whole kept. (total_in_whole c.in-Pairs.block_bits c.in-Pairs.span_bits c.in-Pairs.extra c.in-Pairs.blocks c.in-Pairs.code c.in-Pairs.dict c.in-Pairs.sparse.items c.in-Pairs.lengths.items c.args.size c.args.before_last count keep whole kept (omega (arith, t, c.if-total-size.false)), all_in_whole c.in-Pairs.block_bits c.in-Pairs.span_bits c.in-Pairs.extra c.in-Pairs.blocks c.in-Pairs.code c.in-Pairs.dict c.in-Pairs.sparse.items c.in-Pairs.lengths.items c.args.size c.args.before_last count keep whole kept all))
 
 pub overflow_add-k : goal.overflow_add-k
 overflow_add-k c =
@@ -61,9 +61,9 @@ returns-then-k-len-clause-fault c =
     let d : Entry = record { block = 0; offset = 0 } in
     rw c.in-Pairs.is (
       tt,
-      λ whole packed kept. (
-        total_in_whole c.in-Pairs.block_bits c.in-Pairs.span_bits c.in-Pairs.extra c.in-Pairs.blocks c.in-Pairs.code c.in-Pairs.dict c.in-Pairs.sparse.items c.in-Pairs.lengths.items c.args.size c.args.before_last count whole kept (omega (arith, t, c.if-total-size.false)),
-        bad_in_whole c.in-Pairs.block_bits c.in-Pairs.span_bits c.in-Pairs.extra c.in-Pairs.blocks c.in-Pairs.code c.in-Pairs.dict c.in-Pairs.sparse.items c.in-Pairs.lengths.items c.args.size c.args.before_last count whole kept c.in-Some.k d first (λ last past within leads. omega (arith, last, all, c.if-k-len.true, c.len-2.ensures)),
+      λ keep whole packed kept. (
+        total_in_whole c.in-Pairs.block_bits c.in-Pairs.span_bits c.in-Pairs.extra c.in-Pairs.blocks c.in-Pairs.code c.in-Pairs.dict c.in-Pairs.sparse.items c.in-Pairs.lengths.items c.args.size c.args.before_last count keep whole kept (omega (arith, t, c.if-total-size.false)),
+        bad_in_whole c.in-Pairs.block_bits c.in-Pairs.span_bits c.in-Pairs.extra c.in-Pairs.blocks c.in-Pairs.code c.in-Pairs.dict c.in-Pairs.sparse.items c.in-Pairs.lengths.items c.args.size c.args.before_last count keep whole kept c.in-Some.k d first (λ last past within leads. omega (arith, last, all, c.if-k-len.true, c.len-2.ensures)),
       ),
     )
 
@@ -97,9 +97,9 @@ returns-then-leads_past-clause-ok c =
     let o : entry.offset ≡ (get_or c.in-Pairs.sparse.items c.in-Some.k entry).offset = ap (λ (e : Entry). e.offset) c.index-entry.ensures in
     let kept_count : length c.in-Pairs.lengths.items ≡ vec_len c.in-Pairs.lengths = sym (ap (λ (l : List ℕ). length l) c.deref-3.ensures.value) ∙ c.deref-3.ensures.len in
     let leads = c.if-leads_past.ensures.0 refl in
-    rw c.in-Pairs.is (λ whole kept. (
-      total_in_whole c.in-Pairs.block_bits c.in-Pairs.span_bits c.in-Pairs.extra c.in-Pairs.blocks c.in-Pairs.code c.in-Pairs.dict c.in-Pairs.sparse.items c.in-Pairs.lengths.items c.args.size c.args.before_last count whole kept (omega (arith, t, c.if-total-size.false)),
-      last_in_whole c.in-Pairs.block_bits c.in-Pairs.span_bits c.in-Pairs.extra c.in-Pairs.blocks c.in-Pairs.code c.in-Pairs.dict c.in-Pairs.sparse.items c.in-Pairs.lengths.items c.args.size c.args.before_last count whole kept c.in-Some.k entry first (omega (arith, all, c.if-k-len.false, c.len-2.ensures)) (omega (arith, b, leads.1, c.from.ensures)) (omega (arith, o, leads.2, c.middle_of_span-middle.ensures)),
+    rw c.in-Pairs.is (λ keep whole kept. (
+      total_in_whole c.in-Pairs.block_bits c.in-Pairs.span_bits c.in-Pairs.extra c.in-Pairs.blocks c.in-Pairs.code c.in-Pairs.dict c.in-Pairs.sparse.items c.in-Pairs.lengths.items c.args.size c.args.before_last count keep whole kept (omega (arith, t, c.if-total-size.false)),
+      last_in_whole c.in-Pairs.block_bits c.in-Pairs.span_bits c.in-Pairs.extra c.in-Pairs.blocks c.in-Pairs.code c.in-Pairs.dict c.in-Pairs.sparse.items c.in-Pairs.lengths.items c.args.size c.args.before_last count keep whole kept c.in-Some.k entry first (omega (arith, all, c.if-k-len.false, c.len-2.ensures)) (omega (arith, b, leads.1, c.from.ensures)) (omega (arith, o, leads.2, c.middle_of_span-middle.ensures)),
     ))
 
 pub returns-clause-entry : goal.returns-clause-entry
@@ -122,9 +122,9 @@ returns-clause-fault c =
     let kept_count : length c.in-Pairs.lengths.items ≡ vec_len c.in-Pairs.lengths = sym (ap (λ (l : List ℕ). length l) c.deref-3.ensures.value) ∙ c.deref-3.ensures.len in
     rw c.in-Pairs.is (
       tt,
-      λ whole packed kept. (
-        total_in_whole c.in-Pairs.block_bits c.in-Pairs.span_bits c.in-Pairs.extra c.in-Pairs.blocks c.in-Pairs.code c.in-Pairs.dict c.in-Pairs.sparse.items c.in-Pairs.lengths.items c.args.size c.args.before_last count whole kept (omega (arith, t, c.if-total-size.false)),
-        bad_in_whole c.in-Pairs.block_bits c.in-Pairs.span_bits c.in-Pairs.extra c.in-Pairs.blocks c.in-Pairs.code c.in-Pairs.dict c.in-Pairs.sparse.items c.in-Pairs.lengths.items c.args.size c.args.before_last count whole kept c.in-Some.k entry first (λ last past within leads.
+      λ keep whole packed kept. (
+        total_in_whole c.in-Pairs.block_bits c.in-Pairs.span_bits c.in-Pairs.extra c.in-Pairs.blocks c.in-Pairs.code c.in-Pairs.dict c.in-Pairs.sparse.items c.in-Pairs.lengths.items c.args.size c.args.before_last count keep whole kept (omega (arith, t, c.if-total-size.false)),
+        bad_in_whole c.in-Pairs.block_bits c.in-Pairs.span_bits c.in-Pairs.extra c.in-Pairs.blocks c.in-Pairs.code c.in-Pairs.dict c.in-Pairs.sparse.items c.in-Pairs.lengths.items c.args.size c.args.before_last count keep whole kept c.in-Some.k entry first (λ last past within leads.
             let no : false ≡ true = c.if-leads_past.ensures.1 (omega (arith, b, past, kept_count, c.len-3.ensures), omega (arith, b, within, c.from.ensures), omega (arith, o, leads, c.middle_of_span-middle.ensures)) in
             absurd cc),
       ),

@@ -36,7 +36,7 @@ kept_blocks_of slot (pairs head sparse lengths packed) =
 abbrev pub slot_of : Begun → Slot
 slot_of b = b.slot
 
-fewer_blocks : (list : List Begun) → each blocks_field (map kept_begun list) ≡ each blocks_field list >>= λ subs. means (kept_subs false (map slot_of list) subs)
+fewer_blocks : (list : List Begun) → each blocks_field (map (kept_begun false) list) ≡ each blocks_field list >>= λ subs. means (kept_subs false (map slot_of list) subs)
 fewer_blocks [] = refl
 fewer_blocks (b ∷ list) =
     let rest : List Subtable → Format (List Subtable) = λ subs. means (kept_subs false (map slot_of list) subs) in
@@ -50,15 +50,19 @@ pub kept_blocks : (all : Bool) (list : List Begun) → each blocks_field (kept_m
 kept_blocks true list = sym (then-means (each blocks_field list))
 kept_blocks false list = fewer_blocks list
 
-pub kept_fields : (list : List Begun) → each kept_field list ≡ each lengths_field list >>= λ measured. means (map kept_begun measured)
-kept_fields [] = refl
-kept_fields (b ∷ list) =
-    let rest : List Begun → Format (List Begun) = λ measured. means (map kept_begun measured) in
-    (λ i. kept_field b >>= λ m. kept_fields list i >>= λ ms. means (m ∷ ms))
-    ∙ then-then (lengths_field b) (λ m. means (kept_begun m)) (λ m. (each lengths_field list >>= rest) >>= λ ms. means (m ∷ ms))
-    ∙ (λ i. lengths_field b >>= λ m. then-then (each lengths_field list) rest (λ ms. means (kept_begun m ∷ ms)) i)
+fewer_fields : (list : List Begun) → each (kept_field false) list ≡ each lengths_field list >>= λ measured. means (map (kept_begun false) measured)
+fewer_fields [] = refl
+fewer_fields (b ∷ list) =
+    let rest : List Begun → Format (List Begun) = λ measured. means (map (kept_begun false) measured) in
+    (λ i. kept_field false b >>= λ m. fewer_fields list i >>= λ ms. means (m ∷ ms))
+    ∙ then-then (lengths_field b) (λ m. means (kept_begun false m)) (λ m. (each lengths_field list >>= rest) >>= λ ms. means (m ∷ ms))
+    ∙ (λ i. lengths_field b >>= λ m. then-then (each lengths_field list) rest (λ ms. means (kept_begun false m ∷ ms)) i)
     ∙ sym (then-then (lengths_field b) (λ m. each lengths_field list >>= λ ms. means (m ∷ ms)) rest
     ∙ (λ i. lengths_field b >>= λ m. then-then (each lengths_field list) (λ ms. means (m ∷ ms)) rest i))
+
+pub kept_fields : (all : Bool) (list : List Begun) → each (kept_field all) list ≡ each lengths_field list >>= λ measured. means (kept_measured all measured)
+kept_fields true list = (λ i. each (λ b. then-means (lengths_field b) i) list) ∙ sym (then-means (each lengths_field list))
+kept_fields false list = fewer_fields list
 
 -- ---- headers
 
@@ -66,7 +70,7 @@ pub kept_flags : (size : ℕ) (s : Subtable) → flags_of (kept_of size s) ≡ f
 kept_flags size (constant flags byte) = refl
 kept_flags size (pairs head sparse lengths packed) = refl
 
-same_slots : (list : List Begun) → map slot_of (map kept_begun list) ≡ map slot_of list
+same_slots : (list : List Begun) → map slot_of (map (kept_begun false) list) ≡ map slot_of list
 same_slots [] = refl
 same_slots (b ∷ list) = ap (λ (l : List Slot). b.slot ∷ l) (same_slots list)
 
@@ -76,7 +80,7 @@ kept_slots false list = same_slots list
 
 pub kept_many : (all : Bool) (list : List Begun) → length (kept_measured all list) ≡ length list
 kept_many true list = refl
-kept_many false list = length-map list kept_begun
+kept_many false list = length-map list (kept_begun false)
 
 fewer_flags : (slots : List Slot) (subs : List Subtable) → length slots ≡ length subs → map flags_of (kept_subs false slots subs) ≡ map flags_of subs
 fewer_flags [] [] e = refl

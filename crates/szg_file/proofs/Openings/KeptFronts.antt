@@ -44,21 +44,21 @@ kept_with : (size : ℕ) (s : Subtable) (packed : List ℕ) → with_blocks (kep
 kept_with size (constant flags byte) packed = refl
 kept_with size (pairs head sparse lengths blocks) packed = refl
 
-fewer_end : (place : ℕ) (list : List Begun) → unread_end place (map kept_begun list) ≡ unread_end place list
+fewer_end : (place : ℕ) (list : List Begun) → unread_end place (map (kept_begun false) list) ≡ unread_end place list
 fewer_end place [] = refl
 fewer_end place (b ∷ list) =
-    ap (λ (n : ℕ). unread_end n (map kept_begun list)) (kept_end b.slot.size place b.subtable) ∙ fewer_end (blocks_end place b.subtable) list
+    ap (λ (n : ℕ). unread_end n (map (kept_begun false) list)) (kept_end b.slot.size place b.subtable) ∙ fewer_end (blocks_end place b.subtable) list
 
 pub kept_unread_end : (all : Bool) (place : ℕ) (list : List Begun) → unread_end place (kept_measured all list) ≡ unread_end place list
 kept_unread_end true place list = refl
 kept_unread_end false place list = fewer_end place list
 
-fewer_unread : (content : List ℕ) (place : ℕ) (list : List Begun) → unread_subs content place (map kept_begun list) ≡ kept_subs false (map slot_of list) (unread_subs content place list)
+fewer_unread : (content : List ℕ) (place : ℕ) (list : List Begun) → unread_subs content place (map (kept_begun false) list) ≡ kept_subs false (map slot_of list) (unread_subs content place list)
 fewer_unread content place [] = refl
 fewer_unread content place (b ∷ list) =
     let s : Subtable = b.subtable in
-    (λ i. with_blocks (kept_of b.slot.size s) (bytes_at content (kept_first b.slot.size place s i) (kept_count b.slot.size s i)) ∷ unread_subs content (kept_end b.slot.size place s i) (map kept_begun list))
-    ∙ ap (λ (t : Subtable). t ∷ unread_subs content (blocks_end place s) (map kept_begun list)) (kept_with b.slot.size s (bytes_at content (blocks_first place s) (blocks_count s)))
+    (λ i. with_blocks (kept_of b.slot.size s) (bytes_at content (kept_first b.slot.size place s i) (kept_count b.slot.size s i)) ∷ unread_subs content (kept_end b.slot.size place s i) (map (kept_begun false) list))
+    ∙ ap (λ (t : Subtable). t ∷ unread_subs content (blocks_end place s) (map (kept_begun false) list)) (kept_with b.slot.size s (bytes_at content (blocks_first place s) (blocks_count s)))
     ∙ ap (λ (l : List Subtable). kept_of b.slot.size (with_blocks s (bytes_at content (blocks_first place s) (blocks_count s))) ∷ l) (fewer_unread content (blocks_end place s) list)
 
 pub kept_unread : (all : Bool) (content : List ℕ) (place : ℕ) (list : List Begun) → unread_subs content place (kept_measured all list) ≡ kept_subs all (map slot_of list) (unread_subs content place list)

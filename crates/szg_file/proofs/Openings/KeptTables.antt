@@ -1,12 +1,10 @@
 -- A table without the block lengths that no value needs has the index and the values of the table.
-use Rattle.std.proofs.Common.{◌≡◌, ℕ, Bool, false, List, [], ◌∷◌, ◌++◌, length, map, refl, sym, ap, ◌∙◌, option_map}
+use Rattle.std.proofs.Common.{◌≡◌, ℕ, Bool, false, List, [], ◌∷◌, ◌++◌, length, refl, sym, ap, ◌∙◌}
 use Rattle.szg_values.specs.declared.Kind.{Kind}
 use Rattle.szg_values.specs.Material.{Sides}
 use Rattle.szg_file.specs.Contents.{Contents, Slot, Subtable, slots}
-use Rattle.szg_file.specs.File.{flags_of}
-use Rattle.szg_file.specs.Held.{part_of, map_of, subtable_of}
-use Rattle.szg_file.specs.Index.{Index, index_of, index_with}
-use Rattle.szg_file.specs.Kept.{kept_contents, kept_of, kept_subs}
+use Rattle.szg_file.specs.Index.{index_of, index_with}
+use Rattle.szg_file.specs.Kept.{kept_contents, kept_subs}
 use Rattle.szg_file.specs.Outline.{outlined}
 use Rattle.szg_file.specs.Streaming.{values_if, wanted_of, wanted_values}
 use Rattle.szg_file.specs.Values.{slotted, values_of}

@@ -1,17 +1,14 @@
--- The result of `check_index` as checks of the format, and the number of rows of a field of rows.
-use Rattle.std.proofs.Common.{◌≡◌, ℕ, zero, suc, ◌+◌, ◌-◌, ◌*◌, ◌^◌, ◌<◌, ◌≤◌, Bool, true, List, [], length, map, take, drop, refl, sym, ap, ◌∙◌, inl, inr, Option, Some, None, Ok, Err, arith}
+-- The result of `check_kept_index` as checks of the format, and the number of rows of a field of rows.
+use Rattle.std.proofs.Common.{◌≡◌, ℕ, zero, suc, ◌+◌, ◌-◌, ◌*◌, ◌^◌, ◌<◌, Bool, true, List, [], length, map, take, drop, refl, sym, ap, ◌∙◌, inl, inr, Option, Some, None, Ok, Err, arith}
 use Rattle.std.specs.Prelude.{IfSome, Result}
 use Rattle.std.proofs.Math.Nat.{div-le_self}
-use Rattle.std.proofs.Math.Pow.{pow_mono}
 use Rattle.std.proofs.lemmas.Nat.{pow_pos}
 use Rattle.std.proofs.lemmas.Bool.{cases_lt, false_from_ne_true}
 use Rattle.std.proofs.lemmas.List.{length-map}
-use Rattle.std.proofs.lemmas.Option.{slice_get_past}
-use Rattle.std.specs.List.{slice_get}
 use Rattle.szg_pairs.specs.Dictionary.{FailsFirst}
 use Rattle.szg_pairs.proofs.Accepting.{FailsFirst-unique}
 use Rattle.szg_block.specs.Layout.{Layout, SparseEntry}
-use Rattle.szg_block.specs.Sound.{entry_count, HasTotal, HasGoodEntry, IsGoodEntry, IsShapedLayout}
+use Rattle.szg_block.specs.Sound.{entry_count, HasTotal, HasGoodEntry}
 use Rattle.szg_block.specs.FirstFault.{has_total, first_bad_entry}
 use Rattle.szg_block.specs.Subtable.{IsFaultOf}
 use Rattle.szg_block.specs.declared.SubFault.TheVariants.{ShortTotal, SparseEntry as BadEntry}
@@ -71,26 +68,6 @@ unfolding entry_count
 entry_count-most span_bits size =
     let some = pow_pos span_bits in
     omega (arith, div-le_self (size + 2 ^ span_bits - 1) (2 ^ span_bits), some)
-
-past : (layout : Layout) (k : ℕ) (o : Option SparseEntry) → o ≡ None → IfSome o (IsGoodEntry layout k)
-past layout k None e = tt
-past layout k (Some entry) e = absurd cc
-
-entry_there : (layout : Layout) (k : ℕ) → (HasGoodEntry layout k → ⊥) → k < length layout.sparse
-entry_there layout k bad =
-    elim (cases_lt k (length layout.sparse)) [
-      | inl there ↦ there
-      | inr gone ↦ absurd (bad (past layout k (slice_get layout.sparse k) (slice_get_past layout.sparse k gone)))
-    ]
-
-pub bad_below : (size : ℕ) (packed : List ℕ) (k : ℕ) (o : Option Layout) → IfSome o (λ layout. IsShapedLayout layout size) → IsFaultOf o packed size (BadEntry k) → k < size + 2 ^ 31
-bad_below size packed k None shaped h = absurd h
-bad_below size packed k (Some layout) shaped h =
-    let there = entry_there layout k h.1.here in
-    let count = shaped.sparse in
-    let most = entry_count-most layout.span_bits size in
-    let span : 2 ^ layout.span_bits ≤ 2 ^ 31 = pow_mono shaped.span_bits in
-    omega (arith, there, count, most, span)
 
 -- ---- rows
 

@@ -1,6 +1,6 @@
 -- A file of which not all block lengths are kept: the readings of its front, its blocks and its end are a reading of the
 -- whole file.
-use Rattle.std.proofs.Common.{◌≡◌, ℕ, Bool, true, false, List, [], length, map, refl, sym, ap, ◌∙◌, Option, Ok, Err}
+use Rattle.std.proofs.Common.{◌≡◌, ℕ, Bool, true, false, List, [], length, map, refl, sym, ap, ◌∙◌, Ok, Err}
 use Rattle.szg_io.specs.declared.device.Input.{Ghosts}
 use Rattle.szg_values.specs.declared.Kind.{Kind}
 use Rattle.szg_values.specs.Material.{Sides}

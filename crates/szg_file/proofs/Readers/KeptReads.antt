@@ -1,5 +1,5 @@
 -- Readings of which not all of the meaning is kept.
-use Rattle.std.proofs.Common.{◌≡◌, ℕ, ◌+◌, List, [], ◌++◌, length, refl, sym, ap, subst, ◌∙◌, append-nil, Ok, Err}
+use Rattle.std.proofs.Common.{◌≡◌, ℕ, ◌+◌, List, [], ◌++◌, length, sym, ap, subst, ◌∙◌, append-nil, Ok, Err}
 use Rattle.std.specs.Prelude.{IsErrOf, Option, Result}
 use Rattle.szg_io.specs.declared.device.Input.{Ghosts}
 use Rattle.szg_file.specs.declared.fault.Reason.{Reason}
@@ -104,11 +104,6 @@ memory_as {Y = Y} {fault = fault} e = let same : fault ≡ Memory = cc in ap (λ
 -- ---- readings of a meaning that what is returned has a relation to
 
 -- all of the meaning
-pub reading_of : {A X R : Type 0} (f : Format A) (view : X → A) (result : Result X ReadFault) {o : ReaderState} (n : ReaderState) {dev : Ghosts R} {i : R} (j : R) →
-    Reading f view o n dev i j result → ReadingOf f (λ a x. view x ≡ a) o n dev i j result
-reading_of f view (Ok x) n j h = (view x, refl, reads_seen f view (λ _. view x) x x refl h)
-reading_of {A = A} f view (Err fault) n j h = fault_seen f view (λ (a : A). a) fault h
-
 pub whole_reading : {A X R : Type 0} (f : Format A) (view : X → A) (x : X) {o n : ReaderState} {dev : Ghosts R} {i j : R} →
     ReadingOf f (λ a x. view x ≡ a) o n dev i j (Ok x) → Reading f view o n dev i j (Ok x)
 whole_reading {X = X} f view x h = reads_seen f (λ (_ : X). h.0) view x x h.1 h.2

@@ -1,7 +1,7 @@
-ghost use Rattle.std.specs.Prelude.{ℕ, suc, ◌≡◌, ◌+◌, ◌*◌, ◌≤◌, ◌<◌, ◌^◌, List, length, map, slice_get, OnOk, IfOk, IfSome, IfNone, None};
+ghost use Rattle.std.specs.Prelude.{ℕ, Bool, false, IsTrue, suc, ◌≡◌, ◌+◌, ◌*◌, ◌≤◌, ◌<◌, ◌^◌, List, length, map, slice_get, OnOk, IfOk, IfSome, IfNone, None};
 ghost use Rattle.szg_block.specs.Kept.{with_lengths, IsKeptOf};
-ghost use Rattle.szg_block.specs.Subtable.{layout_of, IsIndexed, IsShapedHead};
-ghost use Rattle.szg_file.specs.File.{each, sparse_field, lengths_field, index_check};
+ghost use Rattle.szg_block.specs.Subtable.{layout_of, IsIndexed};
+ghost use Rattle.szg_file.specs.File.{each, sparse_field, index_check};
 ghost use Rattle.szg_file.specs.FilePieces.{measured_field};
 ghost use Rattle.szg_file.specs.Kept.{kept_field, kept_measured, ReadingOf};
 ghost use Rattle.szg_file.specs.Reading.{Reading, Checks};
@@ -15,9 +15,9 @@ use crate::begun::{Begun, Indexed, Measured};
 use crate::fault::{ReadFault, Reason};
 use crate::reading::kept::take_kept;
 use crate::reading::state::{ReaderState, append};
-use crate::reading::taking::{take_numbers, take_sparse};
+use crate::reading::taking::take_sparse;
 use std::alloc::Global;
-use szg_block::{Entry, Sub, SubFault, check_index, check_kept_index, entry_count};
+use szg_block::{Entry, Sub, SubFault, check_kept_index, entry_count};
 use szg_io::Input;
 
 /// Passes each item of a list, in order, to `take`, which reads more of it. Returns the results.
@@ -99,60 +99,29 @@ pub(crate) fn read_lengths<R: Input>(
     ensures grown { IfOk result (λ measured. HasCounted state.old state.new (begun_lengths list.items) (2 * length measured.items + begun_lengths measured.items)) }
 {
     let indexed = take_each(alloc, list, read_index, input, state)?;
-    if all {
-        take_each(alloc, indexed, read_measured, input, state)
-    } else {
-        take_each(alloc, indexed, read_kept, input, state)
-    }
+    take_each(
+        alloc,
+        indexed,
+        |alloc: Global, indexed: Indexed, input: &mut R, state: &mut ReaderState| {
+            read_measured(alloc, indexed, all, input, state)
+        },
+        input,
+        state,
+    )
 }
 
-/// Reads one subtable's block lengths into it, and checks them and the sparse index. A constant subtable has none.
+/// Reads one subtable's block lengths into it, and checks them and the sparse index. Keeps all if `all`, and otherwise those of
+/// the blocks that begin below the number of positions. A constant subtable has none.
 fn read_measured<R: Input>(
     alloc: Global,
     indexed: Indexed,
+    all: bool,
     input: &mut R,
     state: &mut ReaderState,
 ) -> Result<Measured, ReadFault>
     requires place { state.old.place < 2 ^ 60 + 2 ^ 40 }
     requires growth_bound { state.old.growth ≤ 2 * state.old.place + 2 ^ 15 }
-    ensures lengths { Reading (lengths_field indexed) (λ measured. measured) state.old state.new R.Input input.old input.new result }
-    ensures place { OnOk result (state.new.place ≤ state.old.place + 2 ^ 36) }
-    ensures growth { OnOk result (state.new.growth + 2 * state.old.place ≤ state.old.growth + 2 * state.new.place) }
-    ensures grown { IfOk result (λ measured. HasCounted state.old state.new (sub_lengths indexed.subtable) (sub_lengths measured.subtable)) }
-{
-    let Indexed {
-        slot,
-        mut sub,
-        index,
-    } = indexed;
-    let place = state.place;
-    if let Sub::Pairs {
-        extra,
-        blocks,
-        lengths,
-        ..
-    } = &mut sub
-    {
-        let count = *blocks as u64 + *extra as u64;
-        *lengths = take_numbers(alloc, count, input, state)?;
-    }
-    if let Some((place, reason)) = index_refusal(&sub, slot.size, place, index) {
-        return Err(ReadFault::Refused { place, reason });
-    }
-    Ok(Measured { slot, sub, index })
-}
-
-/// Reads one subtable's block lengths, and checks them and the sparse index, as `read_measured` does. Keeps those of the
-/// blocks that begin below the number of positions.
-fn read_kept<R: Input>(
-    alloc: Global,
-    indexed: Indexed,
-    input: &mut R,
-    state: &mut ReaderState,
-) -> Result<Measured, ReadFault>
-    requires place { state.old.place < 2 ^ 60 + 2 ^ 40 }
-    requires growth_bound { state.old.growth ≤ 2 * state.old.place + 2 ^ 15 }
-    ensures lengths { Reading (kept_field indexed) (λ measured. measured) state.old state.new R.Input input.old input.new result }
+    ensures lengths { Reading (kept_field all indexed) (λ measured. measured) state.old state.new R.Input input.old input.new result }
     ensures place { OnOk result (state.new.place ≤ state.old.place + 2 ^ 36) }
     ensures growth { OnOk result (state.new.growth + 2 * state.old.place ≤ state.old.growth + 2 * state.new.place) }
     ensures grown { IfOk result (λ measured. HasCounted state.old state.new (sub_lengths indexed.subtable) (sub_lengths measured.subtable)) }
@@ -173,14 +142,23 @@ fn read_kept<R: Input>(
     } = &mut sub
     {
         let count = *blocks as u64 + *extra as u64;
-        let kept = take_kept(alloc, count, slot.size, last_block(sparse), input, state)?;
+        let limit = kept_limit(all, slot.size);
+        let kept = take_kept(alloc, count, limit, last_block(sparse), input, state)?;
         before_last = kept.before_last;
         *lengths = kept.lengths;
     }
-    if let Some((place, reason)) = kept_refusal(&sub, slot.size, before_last, place, index) {
+    if let Some((place, reason)) = index_refusal(&sub, slot.size, before_last, place, index) {
         return Err(ReadFault::Refused { place, reason });
     }
     Ok(Measured { slot, sub, index })
+}
+
+/// Returns a limit: the lengths of blocks that begin below it are kept. It is above all values if `all`, else it is `size`.
+fn kept_limit(all: bool, size: u64) -> u64
+    ensures above { IsTrue all → 2 ^ 63 ≤ result }
+    ensures size { all ≡ false → result ≡ size }
+{
+    if all { u64::MAX } else { size }
 }
 
 /// Returns the block of the last entry of a sparse index; 0 if there is none.
@@ -193,27 +171,10 @@ fn last_block(sparse: &[Entry]) -> u64
     }
 }
 
-/// Checks block lengths that begin at offset `place` and a sparse index that begins at offset `index`. Returns the
-/// first failing check with its offset.
-fn index_refusal(sub: &Sub, size: u64, place: u64, index: u64) -> Option<(u64, Reason)>
-    requires shaped { IsShapedHead sub.now size }
-    requires size { size < 2 ^ 33 }
-    requires index { index < 2 ^ 61 }
-    ensures checks { IfSome (layout_of sub.now) (λ layout. Checks (index_check place index layout size) result) }
-    ensures constant { IfNone (layout_of sub.now) (result ≡ None) }
-{
-    match check_index(sub, size) {
-        Ok(()) => None,
-        Err(SubFault::ShortTotal) => Some((place, Reason::ShortTotal)),
-        Err(SubFault::SparseEntry(entry)) => Some((index + 6 * entry, Reason::SparseEntry)),
-        // this check has no other fault
-        Err(SubFault::Word(_)) => None,
-    }
-}
-
-/// Checks block lengths and a sparse index as `index_refusal` does, for a subtable of which only the lengths of the blocks that
-/// begin below `size` are kept. `before_last` values come before the block of the last sparse entry.
-fn kept_refusal(
+/// Checks block lengths that begin at offset `place` and a sparse index that begins at offset `index`. Returns the first failing
+/// check with its offset. All lengths are kept, or those of the blocks that begin below `size`. `before_last` values come before
+/// the block of the last sparse entry.
+fn index_refusal(
     sub: &Sub,
     size: u64,
     before_last: u64,
@@ -225,7 +186,7 @@ fn kept_refusal(
     requires before { before_last < 2 ^ 62 }
     requires size { size < 2 ^ 33 }
     requires index { index < 2 ^ 61 }
-    ensures checks { IfSome (layout_of sub.now) (λ layout. (whole : List ℕ) → IsKeptOf layout size before_last whole → Checks (index_check place index (with_lengths whole layout) size) result) }
+    ensures checks { IfSome (layout_of sub.now) (λ layout. (all : Bool) (whole : List ℕ) → IsKeptOf all layout size before_last whole → Checks (index_check place index (with_lengths whole layout) size) result) }
     ensures constant { IfNone (layout_of sub.now) (result ≡ None) }
 {
     match check_kept_index(sub, size, before_last) {

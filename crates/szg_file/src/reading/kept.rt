@@ -14,7 +14,7 @@ use szg_io::Input;
 impl KeptLengths {
     /// Creates the state before the first length.
     fn new(alloc: Global) -> KeptLengths
-        ensures kept { (size last : ℕ) → IsKept size last [] result }
+        ensures kept { (limit last : ℕ) → IsKept limit last [] result }
         ensures seen { result.seen ≡ 0 }
         ensures empty { result.lengths.items ≡ [] }
     {
@@ -27,9 +27,9 @@ impl KeptLengths {
     }
 
     /// Passes the next length. `last` is the number of the block of the last sparse entry.
-    fn pass(&mut self, length: u16, size: u64, last: u64) -> Result<(), ReadFault>
+    fn pass(&mut self, length: u16, limit: u64, last: u64) -> Result<(), ReadFault>
         requires { self.old.seen < 2 ^ 40 }
-        ensures kept { OnOk result ((list : List ℕ) → IsKept size last list self.old → IsKept size last (list ++ length ∷ []) self.new) }
+        ensures kept { OnOk result ((list : List ℕ) → IsKept limit last list self.old → IsKept limit last (list ++ length ∷ []) self.new) }
         ensures seen { OnOk result (self.new.seen ≡ self.old.seen + 1) }
         ensures memory { OnErr result (result ≡ Err ReadFault.Memory) }
     {
@@ -39,7 +39,7 @@ impl KeptLengths {
         if seen < last {
             self.before_last += values;
         }
-        if self.values < size {
+        if self.values < limit {
             self.values += values;
             self.lengths.push(length)?;
         }
@@ -50,7 +50,7 @@ impl KeptLengths {
     fn add(
         &mut self,
         numbers: &[u16],
-        size: u64,
+        limit: u64,
         last: u64,
         state: &mut ReaderState,
     ) -> Result<(), ReadFault>
@@ -58,7 +58,7 @@ impl KeptLengths {
         requires few { self.old.seen + length numbers.now < 2 ^ 40 }
         requires growth_bound { state.old.growth ≤ 2 * state.old.place + 2 ^ 15 }
         requires place { state.old.place < 2 ^ 62 }
-        ensures kept { OnOk result ((list : List ℕ) → IsKept size last list self.old → IsKept size last (list ++ numbers.now) self.new) }
+        ensures kept { OnOk result ((list : List ℕ) → IsKept limit last list self.old → IsKept limit last (list ++ numbers.now) self.new) }
         ensures seen { OnOk result (self.new.seen ≡ self.old.seen + length numbers.now) }
         ensures growth { OnOk result (state.new.growth ≡ state.old.growth + length numbers.now) }
         ensures place { OnOk result (state.new.place ≡ state.old.place) }
@@ -67,18 +67,18 @@ impl KeptLengths {
     {
         grow(&mut self.lengths, numbers.len(), state)?;
         for length in numbers {
-            self.pass(*length, size, last)?;
+            self.pass(*length, limit, last)?;
         }
         Ok(())
     }
 }
 
-/// Reads `count` block lengths of a subtable with `size` values as one field, in chunks. Keeps those of the blocks that begin
-/// below `size`, and counts the values before block `last`.
+/// Reads `count` block lengths as one field, in chunks. Keeps those of the blocks that begin below value `limit`, and counts the
+/// values before block `last`.
 pub(crate) fn take_kept<R: Input>(
     alloc: Global,
     count: u64,
-    size: u64,
+    limit: u64,
     last: u64,
     input: &mut R,
     state: &mut ReaderState,
@@ -86,7 +86,7 @@ pub(crate) fn take_kept<R: Input>(
     requires place { state.old.place + 2 * count < 2 ^ 62 }
     requires few { count < 2 ^ 40 }
     requires growth_bound { state.old.growth ≤ 2 * state.old.place + 2 ^ 15 }
-    ensures lengths { ReadingOf (numbers_field count) (IsKept size last) state.old state.new R.Input input.old input.new result }
+    ensures lengths { ReadingOf (numbers_field count) (IsKept limit last) state.old state.new R.Input input.old input.new result }
     ensures place { OnOk result (state.new.place ≡ state.old.place + 2 * count) }
     ensures seen { IfOk result (λ kept. kept.seen ≡ count) }
     ensures growth { OnOk result (state.new.growth ≡ state.old.growth + 4 * count) }
@@ -99,7 +99,7 @@ pub(crate) fn take_kept<R: Input>(
         let rows = take_bytes(alloc, 2 * chunk, input, state)?;
         let mut numbers = Vec::new(alloc);
         append_numbers(rows.as_slice(), &mut numbers, state)?;
-        kept.add(numbers.as_slice(), size, last, state)?;
+        kept.add(numbers.as_slice(), limit, last, state)?;
         left -= chunk;
     }
     Ok(kept)

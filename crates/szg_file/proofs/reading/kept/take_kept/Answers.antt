@@ -13,7 +13,7 @@ pub chunks-init : goal.chunks-init
 chunks-init g c = record {
   left = omega arith;
   list = [];
-  kept = c.new-kept.ensures.kept c.args.size c.args.last;
+  kept = c.new-kept.ensures.kept c.args.limit c.args.last;
   rows = rows_none number_of 2 (c.args.count - c.args.count) [] (omega arith) refl;
   seen = omega (arith, c.new-kept.ensures.seen);
   place = omega arith;
@@ -72,7 +72,7 @@ chunks-preserved g c =
     record {
       left = omega (arith, h.left);
       list = h.list ++ more;
-      kept = subst (λ (z : List ℕ). IsKept c.args.size c.args.last (h.list ++ z) c.add.new.self) numbers kept;
+      kept = subst (λ (z : List ℕ). IsKept c.args.limit c.args.last (h.list ++ z) c.add.new.self) numbers kept;
       rows = rows_on number_of 2 (c.args.count - c.chunks.left) chunk (c.args.count - (c.chunks.left - chunk)) h.list (h.list ++ more) (λ list. list.items) bytes
           next sum h.rows c.in_ok-rows.ensures.field c.in_ok-rows.ensures.count refl
           (c.in_ok-add.ensures.place ∙ c.in_ok-append_numbers.ensures.place) (c.in_ok-add.ensures.fill ∙ c.in_ok-append_numbers.ensures.fill);
@@ -91,4 +91,4 @@ returns-clause-lengths g c =
 pub returns-clause-grown : goal.returns-clause-grown
 returns-clause-grown g c =
     let h = c.chunks.invariant in
-    omega (arith, kept_within c.args.size c.args.last h.list c.chunks.kept h.kept, h.seen, h.growth, h.fill)
+    omega (arith, kept_within c.args.limit c.args.last h.list c.chunks.kept h.kept, h.seen, h.growth, h.fill)

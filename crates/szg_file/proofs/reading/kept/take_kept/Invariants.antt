@@ -9,7 +9,7 @@ abbrev pub invariant-chunks : goal.invariant-chunks
 invariant-chunks g l = record {
   left : l.left ≤ l.count;
   list : List ℕ;
-  kept : IsKept l.size l.last list l.kept;
+  kept : IsKept l.limit l.last list l.kept;
   rows : RowsRead number_of 2 (l.count - l.left) list l.initial.state l.state g.R.Input l.initial.input l.input;
   seen : l.kept.seen ≡ l.count - l.left;
   place : l.state.place ≡ l.initial.state.place + 2 * (l.count - l.left);
