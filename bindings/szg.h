@@ -280,6 +280,7 @@ uint32_t szg_front_size(szg_front *front, uint8_t part, uint8_t side, uint64_t *
 
 /* The greatest span bits of the table's subtables, as `szg show` prints them: 1 to 31, or 0 if all are constant. To find its block
  * a look-up adds at most 2^(*bits - 1) + 65535 lengths of blocks: in a crafted table of one-value blocks that may take 16 to 55 ms.
+ * In the last span of a front it may add up to three times as many, since a front keeps no lengths of blocks that no value needs.
  * A caller that must not wait so long opens a front first, and opens or adds no table whose bits exceed a bound. With another
  * status than SZG_DONE *bits stays. */
 uint32_t szg_front_span(szg_front *front, uint8_t *bits);
