@@ -23,6 +23,7 @@ pub struct Code {
     bases: [u64; 32],
     starts: [u8; 256],
     two_words: Option<[TwoWords; 256]>,
+    is_word_by_word: bool,
 }
 
 impl Model for Code {
@@ -74,6 +75,7 @@ impl Code {
                     starts: header.starts(&bases),
                     bases,
                     two_words: None,
+                    is_word_by_word: false,
                     header,
                 };
                 Ok(code.with_two_words())
@@ -136,12 +138,18 @@ impl Code {
         code.with_two_words()
     }
 
-    /// Stores the first two words of each byte, if most bytes contain two words.
+    /// Stores the first two words of each byte, if most bytes contain two words, and whether the code is read word by word.
     fn with_two_words(self) -> Code
         ensures { result ≡ self }
     {
         let two_words = two_words_by_byte(&self);
-        Code { two_words, ..self }
+        let is_word_by_word = self.bases[0] <= MOSTLY_REACHED
+            || (self.header.lowest.len() <= 2 && two_words.is_none());
+        Code {
+            two_words,
+            is_word_by_word,
+            ..self
+        }
     }
 
     /// Returns whether the first two words of each byte are stored, so that `next_words` is worth its table look-up. They
@@ -222,8 +230,8 @@ impl Code {
         self.header.reached_index_from(&self.bases, start, window)
     }
 
-    /// `reached_index`, for windows that mostly begin with a word of the least length: for these without its table. What comes
-    /// next doesn't wait for a length that a processor predicts.
+    /// `reached_index`, without its table: the lengths are tried from the least on. What comes next doesn't wait for a length
+    /// that a processor predicts.
     #[inline(always)]
     fn first_reached_index(&self, window: u64) -> usize
         ensures accepted { IsCode self.now }
@@ -231,10 +239,7 @@ impl Code {
         ensures reaches { shifted_base self.now 64 (self.now.min_length + result) ≤ window }
         ensures before { (k : ℕ) → k < result → window < shifted_base self.now 64 (self.now.min_length + k) }
     {
-        if self.bases[0] <= window {
-            return 0;
-        }
-        self.reached_index(window)
+        self.header.reached_index_from(&self.bases, 0, window)
     }
 
     /// `reached_index`, by its table if `TABLE`, and else without it.
@@ -252,10 +257,25 @@ impl Code {
         }
     }
 
-    /// Returns whether at least seven of eight windows begin with a word of the least length, so that a processor can predict
-    /// a word's length.
+    /// `reached_index`, by its table unless a processor can mostly predict a word's length.
+    #[inline(always)]
+    pub(crate) fn index_in(&self, window: u64) -> usize
+        ensures accepted { IsCode self.now }
+        ensures inside { result < length self.now.lowest }
+        ensures reaches { shifted_base self.now 64 (self.now.min_length + result) ≤ window }
+        ensures before { (k : ℕ) → k < result → window < shifted_base self.now 64 (self.now.min_length + k) }
+    {
+        if self.is_read_word_by_word() {
+            self.index_by::<false>(window)
+        } else {
+            self.index_by::<true>(window)
+        }
+    }
+
+    /// Returns whether a processor can mostly predict a word's length: at least seven of eight windows begin with a word of the
+    /// least length, or there are two lengths at most and no first two words of each byte are stored.
     pub fn is_read_word_by_word(&self) -> bool {
-        self.bases[0] <= MOSTLY_REACHED
+        self.is_word_by_word
     }
 
     /// Returns the number that the window's leading bits, whose number is the length at index `j`, represent as a symbol.

@@ -112,7 +112,7 @@ pub fn next(code: &Code, bits: &mut Bits) -> Option<u16>
     ensures found { IfSome result (λ s. TakesWord code.now bits.old bits.new s) }
     ensures none { IfNone result (BeginsWithNoWord code.now bits.old.left × (bits.new ≡ bits.old)) }
 {
-    let j = code.reached_index(bits.window);
+    let j = code.index_in(bits.window);
     let count = u64::from(code.min()) + j as u64;
     if count > bits.count_left() {
         return None;
