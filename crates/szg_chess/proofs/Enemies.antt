@@ -1,6 +1,6 @@
 -- The squares of a colour's men, as a set, and whether a man reaches one of them.
 use Rattle.std.proofs.Common.{◌≡◌, ℕ, ◌+◌, ◌*◌, ◌%◌, ◌^◌, ◌<◌, ◌≤◌, List, [], ◌∷◌, length, take, get_or, zero, suc, refl, sym, ap, ◌∙◌, Bool, true, false, arith, inl, inr}
-use Rattle.std.specs.Prelude.{◌&&◌, ◌||◌, ◌==◌, nat_lt, min, filter, flat_map}
+use Rattle.std.specs.Prelude.{◌&&◌, ◌||◌, ◌==◌, ◌++◌, nat_lt, min, filter, flat_map, is_some, Option, Some, None}
 use Rattle.std.specs.List.{list_any}
 use Rattle.std.specs.Int.{bit_at}
 use Rattle.std.specs.Int.Bits.{bit_and, bit_or}
@@ -8,11 +8,13 @@ use Rattle.std.proofs.lemmas.Bool.{cases_Bool, and_parts, and_from, or_parts, bo
 use Rattle.std.proofs.lemmas.List.Elements.{All-contains}
 use Rattle.std.proofs.lemmas.List.Folds.{list_any_more}
 use Rattle.std.proofs.lemmas.Nat.Bits.{bit_at_and, bit_at-lt}
-use Rattle.szg_values.specs.Men.{is_color}
+use Rattle.szg_values.specs.Men.{is_color, other_color}
 use Rattle.szg_values.specs.declared.Color.{Color}
 use Rattle.szg_values.specs.Placement.{PlacedMan, AreOnBoard}
 use Rattle.szg_chess.specs.Attacks.{attacks, is_clear}
-use Rattle.szg_chess.specs.Moves.{men_of, moves_if}
+use Rattle.szg_chess.specs.declared.Move.{Move}
+use Rattle.szg_chess.specs.Position.{Position}
+use Rattle.szg_chess.specs.Moves.{men_of, moves_if, is_legal, captures_of, en_passant_moves, legal_captures, may_capture}
 use Rattle.szg_chess.specs.Squares.{is_in, reach_of}
 use Rattle.szg_chess.proofs.Members.{any_of, some_of}
 use Rattle.szg_chess.proofs.Reach.{reach_split}
@@ -101,3 +103,20 @@ pub none_captured : (color : Color) (men : List PlacedMan) (s : PlacedMan) → l
 none_captured color men s e =
     flat_none (λ (t : PlacedMan). is_color color t.1) (λ (t : PlacedMan). attacks [] s t.2) (λ (t : PlacedMan). moves_if (attacks men s t.2) s t.2) men e
     (λ t no. ap (λ (b : Bool). moves_if b s t.2) (reach_split men s t.2 ∙ ap (λ (b : Bool). b && is_clear men s.2 t.2) no))
+
+-- a man of the colour that would attack a man of the other on an empty board
+abbrev pub reaches_some : Color → List PlacedMan → PlacedMan → Bool
+reaches_some color men s = is_color color s.1 && list_any (λ t. is_color (other_color color) t.1 && attacks [] s t.2) men
+
+-- without such a man, and without an en passant square, there is no capture
+pub nothing_captured : (p : Position) → may_capture p ≡ false → legal_captures p ≡ []
+unfolding captures_of
+nothing_captured p e = nowhere p.en_passant (or_parts (is_some p.en_passant) (list_any (reaches_some p.mover p.placed_men) p.placed_men) e)
+  where
+    nowhere : (o : Option ℕ) → (is_some o ≡ false) × (list_any (reaches_some p.mover p.placed_men) p.placed_men ≡ false) →
+        filter (is_legal p) (flat_map (λ s. flat_map (λ t. moves_if (attacks p.placed_men s t.2) s t.2) (men_of (other_color p.mover) p.placed_men) ++ en_passant_moves p.placed_men o s) (men_of p.mover p.placed_men)) ≡ []
+    nowhere None h =
+        ap (filter (is_legal p)) (flat_none (λ (s : PlacedMan). is_color p.mover s.1) (λ (s : PlacedMan). list_any (λ t. is_color (other_color p.mover) t.1 && attacks [] s t.2) p.placed_men)
+        (λ (s : PlacedMan). flat_map (λ t. moves_if (attacks p.placed_men s t.2) s t.2) (men_of (other_color p.mover) p.placed_men) ++ []) p.placed_men h.1
+        (λ s no. ap (λ (ms : List Move). ms ++ []) (none_captured (other_color p.mover) p.placed_men s no)))
+    nowhere (Some square) h = let some = h.0 in cc

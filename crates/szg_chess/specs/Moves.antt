@@ -1,6 +1,6 @@
 -- The moves of a position: first what men may do if checks did not matter, then the position after a move, then the legal moves.
 -- Ranks are numbered from 0.
-use Rattle.std.specs.Prelude.{ℕ, ◌+◌, ◌/◌, Bool, false, not, ◌&&◌, ◌||◌, ◌==◌, List, [], ◌∷◌, ◌++◌, map, flat_map, filter, length, Option, Some, None, if◌then◌else◌, unwrap_or}
+use Rattle.std.specs.Prelude.{ℕ, ◌+◌, ◌/◌, Bool, false, not, ◌&&◌, ◌||◌, ◌==◌, is_some, List, [], ◌∷◌, ◌++◌, map, flat_map, filter, length, Option, Some, None, if◌then◌else◌, unwrap_or}
 use Rattle.std.specs.List.{list_any, range_with_len}
 use Rattle.szg_values.specs.Men.{is_man, is_color, other_color, file_of, rank_of, square_at}
 use Rattle.szg_values.specs.Placement.{PlacedMan}
@@ -49,6 +49,12 @@ captures_by p s = flat_map (λ t. moves_if (attacks p.placed_men s t.2) s t.2) (
 -- the captures of the side to move, in the order of the men
 unfoldable pub captures_of : Position → List Move
 captures_of p = flat_map (captures_by p) (men_of p.mover p.placed_men)
+
+-- Some man of the side to move would attack an enemy man on an empty board, or there is an en passant square. If not, there is
+-- no capture.
+abbrev pub may_capture : Position → Bool
+may_capture p = is_some p.en_passant
+    || list_any (λ s. is_color p.mover s.1 && list_any (λ t. is_color (other_color p.mover) t.1 && attacks [] s t.2) p.placed_men) p.placed_men
 
 -- White's pawns begin on rank 2, which has the number 1, and Black's on rank 7
 abbrev pub home_rank : Color → ℕ

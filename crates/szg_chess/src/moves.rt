@@ -9,7 +9,7 @@ ghost use Rattle.szg_values.specs.declared.Man.TheVariants.{King};
 ghost use Rattle.szg_chess.specs.Attacks.{attacks, is_occupied, is_in_check};
 ghost use Rattle.szg_chess.specs.Position.{IsPosition};
 ghost use Rattle.szg_chess.specs.Squares.{is_in, is_in_moved, squares_of, attacks_past};
-ghost use Rattle.szg_chess.specs.Moves.{men_of, promotes, moves_to, moves_if, may_pass, en_passant_moves, captures_by, captures_of, home_rank, double_rank, is_push, may_enter, quiet_moves_by, quiet_moves_of, moves_of, is_pawn_on, is_square, is_en_passant, captured_square, man_after, men_after, is_double_step, middle, after, is_legal, legal_moves, legal_captures, is_capture, is_zeroing, is_mate, is_stalemate, has_no_move, has_quiet_move, has_move_beside_en_passant};
+ghost use Rattle.szg_chess.specs.Moves.{men_of, promotes, moves_to, moves_if, may_pass, en_passant_moves, captures_by, captures_of, home_rank, double_rank, is_push, may_enter, quiet_moves_by, quiet_moves_of, moves_of, is_pawn_on, is_square, is_en_passant, captured_square, man_after, men_after, is_double_step, middle, after, is_legal, legal_moves, legal_captures, is_capture, is_zeroing, is_mate, is_stalemate, has_no_move, has_quiet_move, has_move_beside_en_passant, may_capture};
 
 use crate::attacks::{attacks_past, files_apart, is_ahead, is_in, other_color, ranks_apart};
 use crate::men::{Few, moved};
@@ -41,6 +41,24 @@ impl Position {
     {
         self.captures_fit();
         self.push_captures(moves);
+    }
+
+    /// Returns whether some man of the side to move would attack an enemy man on an empty board, or there is an en passant
+    /// square. If not, there is no capture: that is soon known.
+    pub fn may_capture(&self) -> bool
+        ensures found { result ≡ may_capture self.now }
+        ensures none { IsFalse result → legal_captures self.now ≡ [] }
+    {
+        if self.en_passant.is_some() {
+            return true;
+        }
+        let enemies = self.enemies();
+        for man in self.men() {
+            if self.is_own(man) && self.reaches_enemy(man, enemies) {
+                return true;
+            }
+        }
+        false
     }
 
     /// Returns the legal moves: captures, then moves to empty squares.
