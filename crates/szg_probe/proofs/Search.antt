@@ -1,6 +1,6 @@
 -- The search of the captures: what is known after some of them.
 use Rattle.std.proofs.Common.{◌≡◌, ℕ, zero, suc, ◌+◌, ◌<◌, ◌≤◌, List, [], ◌∷◌, ◌++◌, length, map, refl, sym, ap, ◌∙◌, subst, Bool, true, false, arith, inl, inr, Option, Some, None, take, get_or, Contains}
-use Rattle.std.specs.Prelude.{◌||◌, ◌&&◌, ◌==◌, not, filter, is_some, option_map}
+use Rattle.std.specs.Prelude.{◌||◌, ◌&&◌, ◌==◌, not, filter, is_some, option_map, Result, Ok, Err, IfOk}
 use Rattle.std.specs.List.{list_any, list_all}
 use Rattle.std.proofs.lemmas.Bool.{cases_Bool, cases_eq, or_parts, or_left, or_right, or_from, and_parts, and_from, eq-eqb, eqb-true, not-true, both_ways, not_from_false, not_from_true, false_from_ne_true}
 use Rattle.std.proofs.lemmas.List.{take_more, take_all}
@@ -13,13 +13,14 @@ use Rattle.szg_values.specs.Placement.{PlacedMan}
 use Rattle.szg_values.specs.declared.Color.{Color}
 use Rattle.szg_chess.specs.declared.Move.{Move}
 use Rattle.szg_chess.specs.Position.{Position, IsPosition}
-use Rattle.szg_chess.specs.Moves.{after, is_capture, is_zeroing, is_en_passant, is_square, is_pawn_on, legal_moves, legal_captures, has_no_move}
-use Rattle.szg_chess.specs.Attacks.{files_apart}
+use Rattle.szg_chess.specs.Moves.{after, is_capture, is_zeroing, is_en_passant, is_square, is_pawn_on, legal_moves, legal_captures, has_no_move, may_capture}
+use Rattle.szg_chess.specs.Attacks.{attacks, files_apart}
+use Rattle.szg_values.specs.Men.{is_color, other_color}
 use Rattle.szg_chess.proofs.Captured.{captures_law}
 use Rattle.szg_probe.specs.Chess.{without_right}
 use Rattle.szg_probe.specs.Distances.{StoredNumbers, is_drawn, MayFailByZeroing, MayFailBySearch}
 use Rattle.szg_probe.specs.Probing.{StoredClasses, stored_class, is_known_loss, all_known, best_capture, has_only_captures, has_only_en_passant, class_from, probed_at, probed, MayFail}
-use Rattle.szg_probe.proofs.Choosing.{better_turns, better_joins, filter_true, filter_in}
+use Rattle.szg_probe.proofs.Choosing.{better_loss, better_turns, better_joins, filter_true, filter_in}
 use Rattle.szg_probe.proofs.Beside.{map_same, only_en_passant}
 use Rattle.szg_probe.proofs.Kings.{TwoKings, each_of_full}
 use Rattle.szg_probe.proofs.Probed.{men_two, capture_fewer, no_capture}
@@ -204,6 +205,18 @@ pub probed_both : (tables : StoredClasses) (p : Position) (best s : Class) → I
 probed_both tables p best s position h no_win more stored =
     let neither : (is_win best || has_only_en_passant p) ≡ false = or_from (is_win best) (has_only_en_passant p) no_win more in
     probed_by_captures tables p position ∙ ap (λ (o : Option Class). class_from (has_only_en_passant p) o (stored_class tables p)) (best_end (after_in tables p) (legal_captures p) best h) ∙ rw (neither, stored) refl
+
+-- without a capture, and without an en passant square, what is stored is the position's class
+pub probed_stored : (tables : StoredClasses) (p : Position) (k : Class) → IsPosition p → may_capture p ≡ false → legal_captures p ≡ [] → stored_class tables p ≡ Some k → probed tables p ≡ Some k
+probed_stored tables p k position quiet none stored =
+    let right = or_parts (is_some p.en_passant) (list_any (λ s. is_color p.mover s.1 && list_any (λ t. is_color (other_color p.mover) t.1 && attacks [] s t.2) p.placed_men) p.placed_men) quiet in
+    let start = subst (λ (ms : List Move). BestSoFar (after_in tables p) ms Loss) (sym none) (best_start (after_in tables p)) in
+    probed_both tables p Loss k position start refl (only_none p right.0) stored ∙ ap (λ (j : Class). Some j) (better_loss k)
+
+pub stored_as_probed : {E : Type 0} (r : Result Class E) (tables : StoredClasses) (p : Position) → IsPosition p → may_capture p ≡ false → legal_captures p ≡ [] → IfOk r (λ k. stored_class tables p ≡ Some k) →
+    IfOk r (λ k. probed tables p ≡ Some k)
+stored_as_probed (Ok k) tables p position quiet none stored = probed_stored tables p k position quiet none stored
+stored_as_probed (Err fault) tables p position quiet none stored = stored
 
 -- what is probed is the same for equal tables and positions
 pub probed_carried : (a b : StoredClasses) (q r : Position) (k : Class) → a ≡ b → q ≡ r → probed a q ≡ Some k → probed b r ≡ Some k

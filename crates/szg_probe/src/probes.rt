@@ -25,8 +25,26 @@ pub fn probe_wdl<T: Tables>(tables: &mut T, position: &Position) -> Result<Class
     search(tables, position)
 }
 
-/// `probe_wdl`, by the captures in turn; a capture that wins ends the search.
+/// `probe_wdl`. That there is no capture is soon known: then the stored class is the position's.
+#[cycle(search)]
 pub(crate) fn search<T: Tables>(tables: &mut T, position: &Position) -> Result<Class, T::Fault>
+    ensures same { tables.new ≡ tables.old }
+    ensures probed { IfOk result (λ k. probed (T.stored tables.old) position.now ≡ Some k) }
+    ensures fault { IfErr result (λ fault. MayFail (T.explains (T.stored tables.old) (T.numbers tables.old) fault) position.now) }
+{
+    // A fact that the proof uses: the men are those of a position.
+    let _ = position.men();
+    if position.may_capture() {
+        search_captures(tables, position)
+    } else {
+        stored_class(tables, position)
+    }
+}
+
+/// `probe_wdl`, by the captures in turn; a capture that wins ends the search.
+#[cycle(search)]
+#[inline(never)]
+fn search_captures<T: Tables>(tables: &mut T, position: &Position) -> Result<Class, T::Fault>
     ensures same { tables.new ≡ tables.old }
     ensures probed { IfOk result (λ k. probed (T.stored tables.old) position.now ≡ Some k) }
     ensures fault { IfErr result (λ fault. MayFail (T.explains (T.stored tables.old) (T.numbers tables.old) fault) position.now) }
