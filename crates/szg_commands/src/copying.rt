@@ -7,7 +7,6 @@ ghost use Rattle.szg_commands.specs.Copies.{IsCopied};
 
 use crate::command_line::CommandForm;
 use crate::commands::words_outcome;
-use crate::fronts::read_failure;
 use crate::on_files::{Ending, FileFailure, LineKind, failed_ending, given, unread_list};
 use crate::request::usage_error;
 use crate::sorting::sorted_words;
@@ -17,7 +16,7 @@ use std::io::ErrorKind;
 use std::path::Path;
 use std::rt::Files;
 use szg_build::StreamFault;
-use szg_files::{Draft, FileFault, FileSystem, Lock, Published, is_folder};
+use szg_files::{Draft, FileFault, FileSystem, Lock, Published, Reasons, is_folder};
 use szg_io::{Input, Output, give_whole, take_whole};
 use szg_named::{
     CheckCounts, CheckOptions, CheckReport, CheckStop, Due, FileVerdict, check_path, due_of,
@@ -130,13 +129,10 @@ where
             Ok(copy) => return Ok(copy),
             Err(fault) => (target, fault),
         },
-        Err(StreamFault::Output) => match draft.abandon() {
-            Some(fault) => (target, fault),
-            None => (target, FileFault::System(ErrorKind::Other.into())),
-        },
+        Err(StreamFault::Output) => (target, FileFault::of(draft.abandon())),
         Err(StreamFault::Input) => {
             draft.discard();
-            (path, read_failure(&file))
+            (path, FileFault::of(file.reason()))
         }
         _ => {
             draft.discard();
@@ -167,7 +163,7 @@ fn published_like<'a, R: Files>(
     draft.seal(Some(like))?.publish()
 }
 
-/// Checks the file at a path and its digest, and copies it to `target` if it passes. Errors: `Memory`.
+/// Checks the file at a path and its digest, and copies it to `target` if it passes.
 fn copy_file<'a, S: FileSystem, R: Files>(
     alloc: Global,
     system: &mut S,
@@ -175,7 +171,7 @@ fn copy_file<'a, S: FileSystem, R: Files>(
     path: &'a str,
     due: Due,
     target: &'a str,
-) -> Result<Copied<'a>, CheckStop>
+) -> Result<Copied<'a>, AllocError>
 where
     R::File: Lock,
     ensures copied { IfOk result (λ copied. IsCopied S.content S.failures S.File.Input due path.now target.now system.old copied) }
@@ -200,7 +196,7 @@ where
                 fault: FileFault::Memory,
                 ..
             },
-        ) => Err(CheckStop::Memory),
+        ) => Err(AllocError),
         Err(FileFailure { path, fault }) => Ok(Copied {
             path,
             verdict: FileVerdict::Unopened(fault),
@@ -209,13 +205,7 @@ where
     }
 }
 
-/// Returns the path of a file's copy in a folder.
-fn path_in(alloc: Global, folder: &str, path: &str) -> Result<String, AllocError> {
-    let name = Path::new(path).file_name().unwrap_or("");
-    format!(in alloc; "{folder}/{name}")
-}
-
-/// Returns the line of a file that was checked, and copied if it passed, and its verdict. Errors: `Memory`.
+/// Returns the line of a file that was checked, and copied if it passed, and its verdict.
 fn copy_to<S: FileSystem, R: Files>(
     alloc: Global,
     system: &mut S,
@@ -223,11 +213,12 @@ fn copy_to<S: FileSystem, R: Files>(
     path: &str,
     due: Due,
     folder: &str,
-) -> Result<(Vec<u8>, FileVerdict), CheckStop>
+) -> Result<(Vec<u8>, FileVerdict), AllocError>
 where
     R::File: Lock,
 {
-    let target = path_in(alloc, folder, path)?;
+    let name = Path::new(path).file_name().unwrap_or("");
+    let target = format!(in alloc; "{folder}/{name}")?;
     let copied = copy_file(alloc, system, files, path, due, target.as_str())?;
     let line = verdict_line(alloc, copied.path, &copied.verdict, false)?;
     Ok((line, copied.verdict))

@@ -17,7 +17,7 @@ use crate::request::{Action, AskedClass, Request};
 use std::alloc::Global;
 use std::io::ErrorKind;
 use szg_file::{ByteRange, FetchFault, FrontTable, MapFault, ReadFault, TableIndex, open_front};
-use szg_files::{FileFault, FileSystem, RangeFault, Reasons, read_range};
+use szg_files::{FileFault, FileSystem, Reasons, read_range};
 use szg_io::Input;
 use szg_place::{Spot, class_of, locate};
 use szg_values::{Kind, Material, PlacedMen, Placement};
@@ -92,11 +92,8 @@ fn block_read<S: FileSystem>(
     if block.resize(count as usize, 0).is_err() {
         return Err(FileFault::Memory);
     }
-    match read_range(system, file, skipped, &mut block) {
-        Ok(()) => Ok(block),
-        Err(RangeFault::Ended) => Err(FileFault::System(ErrorKind::UnexpectedEof.into())),
-        Err(RangeFault::Failed(fault)) => Err(fault),
-    }
+    read_range(system, file, skipped, &mut block)?;
+    Ok(block)
 }
 
 /// Returns the value of a spot. It reads the value's block, and verifies it.
@@ -126,9 +123,7 @@ fn value_by<S: FileSystem>(
             Err(Stop::Refused(Refusal::Block(number, offset)))
         }
         // no file has such a block: it has the range's length
-        Err(FetchFault::Source) => {
-            Err(Stop::Failed(FileFault::System(ErrorKind::UnexpectedEof.into())))
-        }
+        Err(FetchFault::Source) => Err(Stop::Failed(FileFault::Ended)),
     }
 }
 
@@ -297,14 +292,6 @@ pub fn answer_in<S: FileSystem>(
         Ok(opened) => look_up_line(alloc, system, file, &opened, request),
         Err(Stop::Refused(refusal)) => Err(Stop::Refused(refusal)),
         Err(Stop::Memory) => Err(Stop::Memory),
-        Err(Stop::Device) => Err(Stop::Failed(read_failure(&file))),
-    }
-}
-
-/// Why a read of a file failed.
-pub(crate) fn read_failure(file: &impl Reasons) -> FileFault {
-    match file.reason() {
-        Some(error) => FileFault::System(error),
-        None => FileFault::System(ErrorKind::Other.into()),
+        Err(Stop::Device) => Err(Stop::Failed(FileFault::of(file.reason()))),
     }
 }

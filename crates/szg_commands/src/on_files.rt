@@ -14,23 +14,22 @@ ghost use Rattle.szg_commands.specs.declared.refusal.Refusal.{Refusal};
 use crate::commands::{carry_out, refuse, run_by, words_outcome};
 use crate::file_words::{CheckJob, FileJob, names_files, parse_files};
 use crate::finding::Finder;
-use crate::fronts::{answer_in, read_failure};
+use crate::fronts::answer_in;
 use crate::outcome::Outcome;
 use crate::refusal::{Refusal, Stop};
 use crate::request::{Request, Task};
 use crate::saying::say;
 use crate::streaming::{device_stop, lists_values, stream_from};
 use std::alloc::Global;
-use std::io::ErrorKind;
 use std::rt::Files;
 use std::time::Clock;
 use szg_build::Watcher;
 use szg_file::{ReadFault, open_front};
-use szg_files::{Disk, Draft, FileFault, FileSystem, Lock, Published};
+use szg_files::{Disk, Draft, FileFault, FileSystem, Lock, Published, Reasons};
 use szg_io::{Input, Output, give_whole};
 use szg_named::{
-    CheckOptions, CheckReport, ListFailure, ListFault, Log, check_files, check_found,
-    files_to_check, kind_at, named_by, read_lists,
+    CheckOptions, CheckReport, ListFailure, Log, check_files, check_found, files_to_check, kind_at,
+    named_by, read_lists,
 };
 use szg_sums::Sums;
 use szg_values::{Kind, Material};
@@ -74,7 +73,7 @@ fn is_table_of(
         Ok(_) => Ok(true),
         Err(ReadFault::Refused { .. }) => Ok(false),
         Err(ReadFault::Memory) => Err(FileFault::Memory),
-        Err(ReadFault::Device) => Err(read_failure(&file)),
+        Err(ReadFault::Device) => Err(FileFault::of(file.reason())),
     }
 }
 
@@ -195,10 +194,7 @@ where
             Ok(published) => Ok(Some(published)),
             Err(stop) => Err(stop),
         },
-        Err(Stop::Device) => match draft.abandon() {
-            Some(fault) => Err(failed(target, fault)),
-            None => Err(Stop::Device),
-        },
+        Err(Stop::Device) => Err(device_stop(target, draft.abandon())),
         Err(stop) => {
             draft.discard();
             Err(stop)
@@ -244,7 +240,7 @@ where
         alloc, task, None, target, system, files, &mut file, writer, watcher,
     ) {
         Ok(published) => Ok(published),
-        Err(Stop::Device) => Err(device_stop(path, &file)),
+        Err(Stop::Device) => Err(device_stop(path, file.reason())),
         Err(stop) => Err(stop),
     }
 }
@@ -375,10 +371,9 @@ fn run_look_up<'a, S: FileSystem, W: Output>(
 pub(crate) fn unread_list<'a>(failure: ListFailure<'a>, due: LineKind) -> Ending<'a>
     ensures { EndsCheck result (λ report. ⊥) (λ given. ⊥) ⊥ (Unit {0}) }
 {
-    let ListFailure { path, fault } = failure;
-    match fault {
-        ListFault::Line(line) => Ending::BadLine { path, line, due },
-        ListFault::File(fault) => failed_ending(path, fault),
+    match failure {
+        ListFailure::Line(path, line) => Ending::BadLine { path, line, due },
+        ListFailure::File(path, fault) => failed_ending(path, fault),
     }
 }
 
@@ -399,10 +394,7 @@ fn list_into<'a, R: Files>(mut draft: Draft<'a, R>, text: &[u8]) -> Result<Publi
     ensures target { IfOk result (λ published. published_target published ≡ draft_target draft.entry) }
 {
     if give_whole(&mut draft.file, text).is_err() {
-        return Err(match draft.abandon() {
-            Some(fault) => fault,
-            None => FileFault::System(ErrorKind::Other.into()),
-        });
+        return Err(FileFault::of(draft.abandon()));
     }
     draft.seal(None)?.publish()
 }

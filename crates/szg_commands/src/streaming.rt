@@ -19,7 +19,7 @@ use crate::request::{Action, Request, Task};
 use crate::saying::say;
 use itoa::Buffer;
 use std::alloc::{AllocError, Global};
-use std::io::ErrorKind;
+use std::io::{Error, ErrorKind};
 use szg_build::{StreamFault, stream_dump};
 use szg_file::{NoSink, ReadFault, Scanned, SinkFault, ValueSink, scan};
 use szg_files::{FileFault, FileSystem, Reasons};
@@ -252,13 +252,13 @@ fn write_listed<F: Input, W: Output>(
     }
 }
 
-/// Why a file's device stops a task.
-pub(crate) fn device_stop<'a, F: Reasons>(source: &'a str, file: &F) -> FileStop<'a>
+/// Why a failed device stops a task: the file at `path`, if the device has a reason.
+pub(crate) fn device_stop(path: &str, reason: Option<Error>) -> FileStop<'_>
     ensures refused { (refusal : Refusal) → (result ≡ Stop.Refused refusal) → ⊥ }
     ensures memory { (result ≡ Stop.Memory) → ⊥ }
 {
-    match file.reason() {
-        Some(error) => failed(source, FileFault::System(error)),
+    match reason {
+        Some(error) => failed(path, FileFault::System(error)),
         None => Stop::Device,
     }
 }
@@ -287,7 +287,7 @@ pub fn stream_from<'a, S: FileSystem, W: Output>(
     let checked = match read_listed(alloc, request, &mut file) {
         Ok(checked) => checked,
         Err(Stop::Refused(refusal)) => return Err(Stop::Refused(refusal)),
-        Err(Stop::Device) => return Err(device_stop(source, &file)),
+        Err(Stop::Device) => return Err(device_stop(source, file.reason())),
         Err(Stop::Memory) => return Err(Stop::Memory),
     };
     let mut again = match system.open(source) {
@@ -300,7 +300,7 @@ pub fn stream_from<'a, S: FileSystem, W: Output>(
             let changed = FileFault::System(ErrorKind::InvalidData.into());
             Err(failed(source, changed))
         }
-        Err(StreamFault::Input | StreamFault::Output) => Err(device_stop(source, &again)),
+        Err(StreamFault::Input | StreamFault::Output) => Err(device_stop(source, again.reason())),
         Err(StreamFault::Memory) => Err(Stop::Memory),
     }
 }

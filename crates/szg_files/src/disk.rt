@@ -5,7 +5,6 @@ ghost use Rattle.szg_files.specs.Disk.{failures_of};
 
 use crate::file_system::{FileFault, FileSystem, Reasons};
 use crate::monitored::Monitored;
-use crate::ranges::RangeFault;
 use std::alloc::{AllocError, Global};
 use std::fs::{self, OpenFile};
 use std::io::{self, BufReader, Error, ErrorKind, Read, Seek, SeekFrom};
@@ -43,7 +42,7 @@ impl ReadWatcher for () {
 #[derive(Drop)]
 pub struct SystemFile<'a, F, P> {
     file: F,
-    watcher: Option<&'a P>,
+    watcher: &'a P,
 }
 
 impl<'a, F: Read, P: ReadWatcher> Read for SystemFile<'a, F, P> {
@@ -51,9 +50,7 @@ impl<'a, F: Read, P: ReadWatcher> Read for SystemFile<'a, F, P> {
 
     fn read(&mut self, buf: &mut [u8]) -> io::Result<usize> {
         let count = self.file.read(buf)?;
-        if let Some(watcher) = self.watcher {
-            watcher.see_read(count as u64);
-        }
+        self.watcher.see_read(count as u64);
         Ok(count)
     }
 }
@@ -80,7 +77,7 @@ pub struct Disk<'a, R: Files, P> {
     files: &'a R,
     alloc: Global,
     failures: u64,
-    watcher: Option<&'a P>,
+    watcher: &'a P,
     kept: Vec<KeptFile<'a, R::File, P>>,
 }
 
@@ -89,13 +86,7 @@ impl<'a, R: Files> Disk<'a, R, ()> {
     pub fn new(alloc: Global, files: &'a R) -> Disk<'a, R, ()>
         ensures { failures_of result ≡ 0 }
     {
-        Disk {
-            files,
-            alloc,
-            failures: 0,
-            watcher: None,
-            kept: Vec::new(alloc),
-        }
+        Disk::watched(alloc, files, &())
     }
 }
 
@@ -108,7 +99,7 @@ impl<'a, R: Files, P: ReadWatcher> Disk<'a, R, P> {
             files,
             alloc,
             failures: 0,
-            watcher: Some(watcher),
+            watcher,
             kept: Vec::new(alloc),
         }
     }
@@ -122,11 +113,11 @@ impl<'a, R: Files, P: ReadWatcher> Disk<'a, R, P> {
         if !file.metadata()?.is_file() {
             return Err(FileFault::NotRegular);
         }
-        let watcher = self.watcher;
-        if let Some(watcher) = watcher {
-            watcher.see_open();
-        }
-        Ok(SystemFile { file, watcher })
+        self.watcher.see_open();
+        Ok(SystemFile {
+            file,
+            watcher: self.watcher,
+        })
     }
 
     /// Opens a regular file. If there is no room for a further open file, the kept ones are closed first.
@@ -164,9 +155,9 @@ impl<'a, R: Files, P: ReadWatcher> Disk<'a, R, P> {
 
 impl<'a, F: Read + Seek + OpenFile, P: ReadWatcher> SystemFile<'a, F, P> {
     /// Reads a range of the file, which is to have `len` bytes.
-    fn read_range(&mut self, len: u64, at: u64, out: &mut [u8]) -> Result<(), RangeFault> {
+    fn read_range(&mut self, len: u64, at: u64, out: &mut [u8]) -> Result<(), FileFault> {
         if self.file.metadata()?.len() != len {
-            return Err(RangeFault::Ended);
+            return Err(FileFault::Ended);
         }
         self.file.seek(SeekFrom::Start(at))?;
         Ok(self.read_exact(out)?)
@@ -186,22 +177,16 @@ fn is_full(fault: &FileFault) -> bool {
 
 impl From<Error> for FileFault {
     fn from(error: Error) -> FileFault {
-        FileFault::System(error)
+        match error.kind() {
+            ErrorKind::UnexpectedEof => FileFault::Ended,
+            _ => FileFault::System(error),
+        }
     }
 }
 
 impl From<AllocError> for FileFault {
     fn from(_failed: AllocError) -> FileFault {
         FileFault::Memory
-    }
-}
-
-impl From<Error> for RangeFault {
-    fn from(error: Error) -> RangeFault {
-        match error.kind() {
-            ErrorKind::UnexpectedEof => RangeFault::Ended,
-            _ => RangeFault::Failed(FileFault::System(error)),
-        }
     }
 }
 
@@ -248,11 +233,8 @@ impl<'a, R: Files, P: ReadWatcher> FileSystem for Disk<'a, R, P> {
         Ok(Std::new(reader))
     }
 
-    fn read_at(&mut self, path: &str, len: u64, at: u64, out: &mut [u8]) -> Result<(), RangeFault> {
-        let number = match self.kept_at(path) {
-            Ok(number) => number,
-            Err(fault) => return Err(RangeFault::Failed(fault)),
-        };
+    fn read_at(&mut self, path: &str, len: u64, at: u64, out: &mut [u8]) -> Result<(), FileFault> {
+        let number = self.kept_at(path)?;
         let read = self.kept[number].file.read_range(len, at, out);
         if read.is_err() {
             self.kept.swap_remove(number);

@@ -14,7 +14,7 @@ use crate::file_system::FileFault;
 use crate::monitored::Monitored;
 use std::alloc::{AllocError, Global};
 use std::fs::{self, File, FileTimes, Metadata, OpenFile, OpenOptions};
-use std::io::{self, BufWriter, ErrorKind, Write};
+use std::io::{self, BufWriter, Error, ErrorKind, Write};
 use std::os::unix::fs::MetadataExt;
 use std::rt::Files;
 use szg_io::{Past, Std};
@@ -214,13 +214,10 @@ impl<'a, R: Files> Draft<'a, R> {
     }
 
     /// Removes the temporary file; returns the error of the last write that failed. None if no write failed.
-    pub fn abandon(self) -> Option<FileFault> {
+    pub fn abandon(self) -> Option<Error> {
         let error = self.file.inner().get_ref().error();
         self.discard();
-        match error {
-            Some(error) => Some(FileFault::System(error)),
-            None => None,
-        }
+        error
     }
 
     /// Gives the file the mode and the time of last change of another one, if there is one, and flushes all bytes to the disk.
@@ -240,12 +237,6 @@ impl<'a, R: Files> Draft<'a, R> {
     }
 }
 
-/// Gives a file the mode and the time of last change of another one.
-fn make_like<F: OpenFile>(file: &F, like: &Metadata) -> io::Result<()> {
-    file.set_permissions(like.permissions())?;
-    file.set_times(FileTimes::new().set_modified(like.modified()?))
-}
-
 /// Writes the buffered bytes, makes the file like another one if there is one, and flushes it to the disk.
 fn flushed<F: Write + OpenFile + Drop>(
     file: DraftFile<F>,
@@ -256,7 +247,9 @@ fn flushed<F: Write + OpenFile + Drop>(
     match file.into_inner().into_inner() {
         Ok(monitored) => {
             if let Some(like) = like {
-                make_like(monitored.inner(), like)?;
+                let file = monitored.inner();
+                file.set_permissions(like.permissions())?;
+                file.set_times(FileTimes::new().set_modified(like.modified()?))?;
             }
             monitored.inner().sync_all()?;
             Ok(monitored)

@@ -2,21 +2,34 @@
 ghost use Rattle.std.specs.Prelude.{◌≡◌, ◌+◌, ◌<◌, ◌⊎◌, ℕ, List, None, Option, Some, [], IfErr, IfOk, IfSome, IsErrOf, OnOk, OnErr, drop, length, take};
 ghost use Rattle.szg_io.specs.Device.{raised};
 
-use crate::ranges::RangeFault;
-use std::io::Error;
+use std::io::{Error, ErrorKind};
 use szg_io::Input;
 
-/// Why a file is not opened or written.
+/// Why a file is not opened, read or written.
 #[derive(Clone, Copy)]
 pub enum FileFault {
     /// It is a directory, a pipe or a device: only regular files are opened.
     NotRegular,
     /// What was to be written isn't the table that its name says.
     OtherTable,
+    /// It ends before the bytes that are to be read do, or it has another length than it is to have.
+    Ended,
     /// The system's reason.
     System(Error),
     /// An allocation was refused.
     Memory,
+}
+
+impl FileFault {
+    ghost use Rattle.std.specs.Prelude.{◌≡◌};
+    ghost use Rattle.std.specs.declared.io.Error.{Error};
+
+    /// Returns why a device failed, by its reason if it has one.
+    pub fn of(reason: Option<Error>) -> FileFault
+        ensures { (error : Error) × (result ≡ FileFault.System error) }
+    {
+        FileFault::System(reason.unwrap_or(ErrorKind::Other.into()))
+    }
 }
 
 /// A device that may return the reason of its last failure.
@@ -62,13 +75,13 @@ pub trait FileSystem {
     /// Reads the bytes from offset `at` on of the file at a path, which is to have `len` bytes, into the whole of `out`. The
     /// file may stay open for the next call.
     ///
-    /// Errors: `Ended` if its length is another one, or if it ends before the range does; else `Failed` with the system's
-    /// reason, only if the bytes are not known.
-    fn read_at(&mut self, path: &str, len: u64, at: u64, out: &mut [u8]) -> Result<(), RangeFault>
+    /// Errors: `Ended` if its length is another one, or if it ends before the range does; else the system's reason,
+    /// only if the bytes are not known.
+    fn read_at(&mut self, path: &str, len: u64, at: u64, out: &mut [u8]) -> Result<(), FileFault>
         ensures range { OnOk result (IfSome (content self.old path.now) (λ known. out.new ≡ take (length out.old) (drop at known))) }
         ensures size { OnOk result (IfSome (content self.old path.now) (λ known. length known ≡ len)) }
         ensures content { content self.new ≡ content self.old }
         ensures quiet { failures self.new ≡ failures self.old }
-        ensures ended { IsErrOf result RangeFault.Ended → IfSome (content self.old path.now) (λ known. (length known ≡ len → length known < at + length out.old)) }
-        ensures failed { IfErr result (λ fault. fault ≡ RangeFault.Ended ⊎ content self.old path.now ≡ None) };
+        ensures ended { IsErrOf result FileFault.Ended → IfSome (content self.old path.now) (λ known. (length known ≡ len → length known < at + length out.old)) }
+        ensures failed { IfErr result (λ fault. fault ≡ FileFault.Ended ⊎ content self.old path.now ≡ None) };
 }

@@ -15,4 +15,4 @@ pub use file_system::{FileFault, FileSystem, Reasons};
 pub use folders::{Below, Finding, files_below, first_bytes, is_folder};
 pub use memory::{MemoryFile, MemoryFiles};
 pub use monitored::Monitored;
-pub use ranges::{RangeFault, read_range};
+pub use ranges::read_range;

@@ -3,7 +3,6 @@ ghost use Rattle.std.specs.Prelude.{◌≡◌, option_map};
 ghost use Rattle.szg_files.specs.Memory.{found};
 
 use crate::file_system::{FileFault, FileSystem, Reasons};
-use crate::ranges::RangeFault;
 use std::io::{Error, ErrorKind};
 use szg_io::Bytes;
 
@@ -51,7 +50,7 @@ impl<'a> FileSystem for MemoryFiles<'a> {
             Some(bytes) => Ok(Bytes::new(bytes)),
             None => {
                 self.failures = self.failures.saturating_add(1);
-                Err(FileFault::System(Error::from(ErrorKind::NotFound)))
+                Err(FileFault::System(ErrorKind::NotFound.into()))
             }
         }
     }
@@ -66,18 +65,17 @@ impl<'a> FileSystem for MemoryFiles<'a> {
         Ok(Bytes::new(&left[first..]))
     }
 
-    fn read_at(&mut self, path: &str, len: u64, at: u64, out: &mut [u8]) -> Result<(), RangeFault> {
+    fn read_at(&mut self, path: &str, len: u64, at: u64, out: &mut [u8]) -> Result<(), FileFault> {
         let Some(known) = first_of(self.files, path) else {
-            let reason = Error::from(ErrorKind::NotFound);
-            return Err(RangeFault::Failed(FileFault::System(reason)));
+            return Err(FileFault::System(ErrorKind::NotFound.into()));
         };
         let size = known.len() as u64;
         if size != len || size < at {
-            return Err(RangeFault::Ended);
+            return Err(FileFault::Ended);
         }
         let rest = &known[at as usize..];
         if rest.len() < out.len() {
-            return Err(RangeFault::Ended);
+            return Err(FileFault::Ended);
         }
         out.copy_from_slice(&rest[..out.len()]);
         Ok(())

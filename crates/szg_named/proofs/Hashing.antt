@@ -21,7 +21,6 @@ use Rattle.szg_named.specs.Verdicts.{IsComparedTable, IsDigestedOn, IsDueVerdict
 use Rattle.szg_named.specs.declared.due.Due.{Due}
 use Rattle.szg_named.specs.declared.due.Due.TheVariants as dues
 use Rattle.szg_named.specs.declared.file_verdict.SumFault.TheVariants.{Differs}
-use Rattle.szg_named.specs.declared.stop.CheckStop.{CheckStop}
 use Rattle.szg_named.specs.declared.file_verdict.FileVerdict.{FileVerdict}
 use Rattle.szg_named.specs.declared.file_verdict.FileVerdict.TheVariants.{Whole, Ending, Name, At, Trailing, Unopened, Unread, NoText, Empty, Skipped, Kept, Sum}
 
@@ -113,7 +112,7 @@ module _ {F H : Type 0} {hashing : hasher.Ghosts H} (device : input.Ghosts F) wh
       (read.input, (checked.input, verdict, due_on due material kind old checked verdict h, rw table c))
 
 -- the verdict where a digest is due, whose algorithm is known
-pub summed : {F : Type 0} (device : input.Ghosts F) (sum form : Digest) (material : Sides) (kind : Kind) (file : F) (result : Result (Checked F) CheckStop) → sum ≡ form →
+pub summed : {F E : Type 0} (device : input.Ghosts F) (sum form : Digest) (material : Sides) (kind : Kind) (file : F) (result : Result (Checked F) E) → sum ≡ form →
     IfOk result (λ checked. IsHashedVerdictOn device (λ m. has_sum form m) material kind file checked.input checked.verdict) →
     IfOk result (λ checked. IsHashedVerdictOn device (λ m. has_sum sum m) material kind file checked.input checked.verdict)
 summed device sum form material kind file result is h =
@@ -121,7 +120,7 @@ summed device sum form material kind file result is h =
 
 -- what was found where a digest is asked for, and where none is
 module _ {F : Type 0} (device : input.Ghosts F) (has : Bool) (due : Due) (material : Sides) (kind : Kind) (file : F) where
-  pub found_digested : (result : Result CheckedFile CheckStop) → has ≡ true → IfOk result (λ found. (read : F) × IsDigestedOn device due material kind file read found) →
+  pub found_digested : {E : Type 0} (result : Result CheckedFile E) → has ≡ true → IfOk result (λ found. (read : F) × IsDigestedOn device due material kind file read found) →
       IfOk result (λ found. (read : F) × IsFoundOn has device due material kind file read found)
   found_digested (Ok found) is h = (h.0, rw is h.1)
   found_digested (Err stop) is h = tt

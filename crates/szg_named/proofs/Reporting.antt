@@ -133,7 +133,6 @@ module _ {S F W : Type 0} (content : S → List ℕ → Option (List ℕ)) (fail
 
 -- what was found by what the lists have for a path
 pub due_is : {S F : Type 0} (content : S → List ℕ → Option (List ℕ)) (failures : S → ℕ) (device : input.Ghosts F) (options : CheckOptions) (path : List ℕ) (due : Due)
-    (system system' : S) (result : Result CheckedFile CheckStop) → due ≡ due_in options.sums path → IfOk result (λ found. IsFileVerdict content failures device options.naming due options.has_manifest path system system' found) →
-    IfOk result (λ found. IsPathVerdict content failures device options path system system' found)
-due_is content failures device options path due system system' (Ok found) is h = inr (subst (λ (z : Due). IsFileVerdict content failures device options.naming z options.has_manifest path system system' found) is h)
-due_is content failures device options path due system system' (Err stop) is h = tt
+    (system system' : S) (found : CheckedFile) → due ≡ due_in options.sums path → IsFileVerdict content failures device options.naming due options.has_manifest path system system' found →
+    IsPathVerdict content failures device options path system system' found
+due_is content failures device options path due system system' found is h = inr (subst (λ (z : Due). IsFileVerdict content failures device options.naming z options.has_manifest path system system' found) is h)

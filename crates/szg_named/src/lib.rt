@@ -25,7 +25,7 @@ pub use lines::{
     error_text, escaped_path, fault_text, name_word, reason_word, sum_word, summary_line,
     verdict_line,
 };
-pub use lists::{FromLines, ListFailure, ListFault, read_lists};
+pub use lists::{FromLines, ListFailure, read_lists};
 pub use log::{FileState, Log};
 pub use many::{CheckOptions, CheckReport, check_entries, check_files, check_found};
 pub use named::{Naming, named_as, named_by};

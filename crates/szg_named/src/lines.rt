@@ -7,7 +7,7 @@ use crate::file_verdict::{FileVerdict, Skip, SumFault};
 use crate::report_format::ReportFormat;
 use crate::stop::CheckCounts;
 use std::alloc::{AllocError, Global};
-use std::io::Error;
+use std::io::{Error, ErrorKind};
 use szg_file::Reason;
 use szg_files::FileFault;
 use szg_values::NameFault;
@@ -229,6 +229,7 @@ pub fn fault_text(alloc: Global, fault: &FileFault) -> Result<String, AllocError
     match fault {
         FileFault::NotRegular => String::from_str(alloc, "not a regular file"),
         FileFault::OtherTable => String::from_str(alloc, "its name is another table's"),
+        FileFault::Ended => error_text(alloc, &Some(ErrorKind::UnexpectedEof.into())),
         FileFault::System(error) => error_text(alloc, &Some(*error)),
         FileFault::Memory => String::from_str(alloc, "out of memory"),
     }

@@ -7,29 +7,13 @@ use std::rt::Files;
 use szg_files::FileFault;
 use szg_sums::{Sums, SumsFault};
 
-/// Why a list of sums, or a log, is not read.
-#[derive(Clone, Copy)]
-pub enum ListFault {
-    /// Its file can't be read.
-    File(FileFault),
-    /// The line of this number, from 1 on, isn't one of a list, or of a log.
-    Line(u64),
-}
-
 /// A list of sums, or a log, that is not read, and why.
 #[derive(Clone, Copy)]
-pub struct ListFailure<'a> {
-    pub path: &'a str,
-    pub fault: ListFault,
-}
-
-impl From<SumsFault> for ListFault {
-    fn from(fault: SumsFault) -> ListFault {
-        match fault {
-            SumsFault::Line(number) => ListFault::Line(number),
-            SumsFault::Memory => ListFault::File(FileFault::Memory),
-        }
-    }
+pub enum ListFailure<'a> {
+    /// The file at this path can't be read.
+    File(&'a str, FileFault),
+    /// In the file at this path the line of this number, from 1 on, isn't one of a list, or of a log.
+    Line(&'a str, u64),
 }
 
 /// What is read from lines.
@@ -55,25 +39,17 @@ pub fn read_lists<'a, R: Files, L: FromLines>(
 ) -> Result<(), ListFailure<'a>> {
     'lists: for list in lists {
         let path: &'a str = list;
-        match add_list(alloc, files, path, read) {
+        let text = match text_at(alloc, files, path) {
+            Ok(text) => text,
+            Err(fault) => return Err(ListFailure::File(path, fault)),
+        };
+        match read.add_lines(alloc, &text) {
             Ok(()) => {}
-            Err(fault) => return Err(ListFailure { path, fault }),
+            Err(SumsFault::Line(line)) => return Err(ListFailure::Line(path, line)),
+            Err(SumsFault::Memory) => return Err(ListFailure::File(path, FileFault::Memory)),
         }
     }
     Ok(())
-}
-
-/// Adds the lines of the file at a path.
-fn add_list<R: Files, L: FromLines>(
-    alloc: Global,
-    files: &R,
-    path: &str,
-    read: &mut L,
-) -> Result<(), ListFault> {
-    match text_at(alloc, files, path) {
-        Ok(text) => Ok(read.add_lines(alloc, &text)?),
-        Err(fault) => Err(ListFault::File(fault)),
-    }
 }
 
 /// Returns the bytes of the file at a path.

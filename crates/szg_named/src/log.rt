@@ -62,7 +62,9 @@ impl FromLines for Log {
         let mut number = 0u64;
         'lines: for line in text[..end].split(|byte| *byte == b'\n') {
             number = number.saturating_add(1);
-            if line.is_empty() || is_summary(line) {
+            let is_summary = (line.starts_with(b"files ".as_slice()) && !line.contains(&b'\t'))
+                || line.starts_with(b"{\"files\":".as_slice());
+            if line.is_empty() || is_summary {
                 continue;
             }
             match entry_in(alloc, line)? {
@@ -94,12 +96,6 @@ fn last_of(entries: &[LogEntry], path: &[u8]) -> Option<FileState>
         known = past(path, known, entry);
     }
     known
-}
-
-/// Whether a line is the summary of a run.
-fn is_summary(line: &[u8]) -> bool {
-    (line.starts_with(b"files ".as_slice()) && !line.contains(&b'\t'))
-        || line.starts_with(b"{\"files\":".as_slice())
 }
 
 /// Returns the record in a line. None if it has none.

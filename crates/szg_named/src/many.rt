@@ -82,20 +82,10 @@ impl<'a> CheckOptions<'a> {
     }
 }
 
-/// The time by the clock's count of seconds. None if the clock fails, or nobody asks.
-fn time_now<C: Clock>(clock: &C, format: ReportFormat) -> Option<Instant> {
-    match format {
-        ReportFormat::Text => None,
-        ReportFormat::Tsv | ReportFormat::Json => Instant::now(clock).ok(),
-    }
-}
-
-/// The time between two readings of a clock. None if one is missing.
-fn between(started: Option<Instant>, ended: Option<Instant>) -> Option<Duration> {
-    match (started, ended) {
-        (Some(started), Some(ended)) => Some(ended.duration_since(started)),
-        _ => None,
-    }
+/// The time since an earlier reading of a clock. None if there is none, or the clock fails.
+fn time_since<C: Clock>(clock: &C, started: Option<Instant>) -> Option<Duration> {
+    let started = started?;
+    Some(Instant::now(clock).ok()?.duration_since(started))
 }
 
 /// The state of the file at a path. None if it isn't known, or it changed before 1970.
@@ -207,37 +197,6 @@ fn kept_length<R: Files>(
     }
 }
 
-/// Returns the verdict of an entry: the one that is known, else that on its file, and on its digest if there are lists of sums.
-/// Errors: `Memory`.
-#[tactic(auto, using(crate::proofs::Reporting::due_is))]
-fn verdict_of<S: FileSystem, R: Files>(
-    alloc: Global,
-    system: &mut S,
-    files: &R,
-    options: CheckOptions<'_>,
-    entry: &PathToCheck,
-) -> Result<CheckedFile, CheckStop>
-    ensures verdict { IfOk result (λ found. IsVerdictAt S.content S.failures S.File.Input options.entry (string_bytes entry.now.path) entry.now.note system.old system.new found) }
-    ensures only { IsErrOf result CheckStop.Device → ⊥ }
-{
-    if let Some(verdict) = entry.note {
-        return Ok(CheckedFile::undigested(verdict));
-    }
-    let path = entry.path.as_str();
-    if let Some(length) = kept_length(alloc, files, options, path)? {
-        return Ok(CheckedFile::undigested(FileVerdict::Kept(length)));
-    }
-    let due = due_of(alloc, options.sums, path)?;
-    check_path(
-        alloc,
-        system,
-        options.naming,
-        path,
-        due,
-        options.has_manifest,
-    )
-}
-
 /// When the file of an entry changed, where a record has that. It is asked before the file is read: what changes while it is
 /// read has another time then.
 fn modified_at<R: Files>(files: &R, format: ReportFormat, entry: &PathToCheck) -> Option<u64> {
@@ -247,24 +206,42 @@ fn modified_at<R: Files>(files: &R, format: ReportFormat, entry: &PathToCheck) -
     Some(state_at(files, entry.path.as_str())?.modified)
 }
 
-/// Finds the verdict of an entry, and times that where a record has the seconds. Errors: `Memory`.
+/// Finds what is known of an entry, or else what the check of its file and of its digest finds; and times that where a record
+/// has the seconds.
+#[tactic(auto, using(crate::proofs::Reporting::due_is))]
 fn report_entry<S: FileSystem, D: Files + Clock>(
     alloc: Global,
     system: &mut S,
     machine: &D,
     options: CheckOptions<'_>,
     entry: &PathToCheck,
-) -> Result<Reported, CheckStop>
+) -> Result<Reported, AllocError>
     ensures verdict { IfOk result (λ reported. IsVerdictAt S.content S.failures S.File.Input options.entry (string_bytes entry.now.path) entry.now.note system.old system.new reported.found) }
     ensures line { IfOk result (λ reported. IsShownLine options.entry.quiet options.entry.format options.entry.allow_trailing (string_bytes entry.now.path) reported.found.verdict reported.line.items) }
     ensures listed { IfOk result (λ reported. reported.listed.items ≡ manifest_line options.entry.allow_trailing (string_bytes entry.now.path) reported.found.verdict reported.found.digest) }
-    ensures only { IsErrOf result CheckStop.Device → ⊥ }
 {
-    let modified = modified_at(machine, options.format, entry);
-    let started = time_now(machine, options.format);
-    let found = verdict_of(alloc, system, machine, options, entry)?;
-    let elapsed = between(started, time_now(machine, options.format));
     let path = entry.path.as_str();
+    let modified = modified_at(machine, options.format, entry);
+    let started = match options.format {
+        ReportFormat::Text => None,
+        ReportFormat::Tsv | ReportFormat::Json => Instant::now(machine).ok(),
+    };
+    let found = if let Some(verdict) = entry.note {
+        CheckedFile::undigested(verdict)
+    } else if let Some(length) = kept_length(alloc, machine, options, path)? {
+        CheckedFile::undigested(FileVerdict::Kept(length))
+    } else {
+        let due = due_of(alloc, options.sums, path)?;
+        check_path(
+            alloc,
+            system,
+            options.naming,
+            path,
+            due,
+            options.has_manifest,
+        )?
+    };
+    let elapsed = time_since(machine, started);
     let timing = Timing { elapsed, modified };
     let line = shown_line(alloc, options, path, &found.verdict, timing)?;
     let listed = manifest_line(alloc, options.allow_trailing, path, found)?;

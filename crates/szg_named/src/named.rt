@@ -1,6 +1,6 @@
 //! The table's name and kind in a path.
 ghost use Rattle.std.specs.Prelude.{◌≡◌, option_map};
-ghost use Rattle.szg_named.specs.Named.{kind_by, kind_of_ending, name_given, named_as, named_by};
+ghost use Rattle.szg_named.specs.Named.{kind_by, name_given, named_as, named_by};
 
 use std::path::Path;
 use szg_values::Kind;
@@ -10,17 +10,6 @@ use szg_values::Kind;
 pub struct Naming<'a> {
     pub name: Option<&'a str>,
     pub kind: Option<Kind>,
-}
-
-/// Returns the kind of table of a file extension.
-fn kind_of(ending: &str) -> Option<Kind>
-    ensures { result ≡ kind_of_ending ending.now }
-{
-    match ending {
-        "rtbw" => Some(Kind::Wdl),
-        "rtbz" => Some(Kind::Dtz),
-        _ => None,
-    }
 }
 
 /// Returns the table's name and kind from a path's file name: `KQvK.rtbw` is the WDL table of `KQvK`. None if the
@@ -34,13 +23,14 @@ pub fn named_by(path: &str) -> Option<(&str, Kind)>
     }
 }
 
-/// Returns the kind of a path's extension.
+/// Returns the kind of table of a path's extension.
 fn kind_by(path: &str) -> Option<Kind>
     ensures { result ≡ kind_by path.now }
 {
     match Path::new(path).extension() {
-        Some(ending) => kind_of(ending),
-        None => None,
+        Some("rtbw") => Some(Kind::Wdl),
+        Some("rtbz") => Some(Kind::Dtz),
+        _ => None,
     }
 }
 

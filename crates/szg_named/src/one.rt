@@ -1,5 +1,5 @@
 //! The check of one file.
-ghost use Rattle.std.specs.Prelude.{◌≡◌, ◌⊎◌, ◌^◌, ◌≤◌, ◌++◌, ℕ, List, length, IfOk, IsErrOf, OnErr, OnOk, [], if◌then◌else◌};
+ghost use Rattle.std.specs.Prelude.{◌≡◌, ◌⊎◌, ◌^◌, ◌≤◌, ◌++◌, ℕ, List, length, IfOk, OnErr, OnOk, [], if◌then◌else◌};
 ghost use Rattle.std.specs.Io.KnownBytes.{IsAtEnd};
 ghost use Rattle.szg_io.specs.Device.{HasFailed};
 ghost use Rattle.std.specs.Str.{bytes_eq};
@@ -10,30 +10,28 @@ use crate::due::Due;
 use crate::file_verdict::{FileVerdict, SumFault};
 use crate::hashed::Hashed;
 use crate::named::{Naming, named_as};
-use crate::stop::CheckStop;
-use std::alloc::Global;
+use std::alloc::{AllocError, Global};
 use szg_file::{NoSink, ReadFault, scan};
 use szg_files::{FileFault, FileSystem, Reasons};
 use szg_io::{DeviceFault, Input, take_whole};
 use szg_sums::{Hasher, Md5, Sha1, Sha256, Sha512, Sum};
 use szg_values::{Kind, Material};
 
-/// Checks an opened file: it must be a table, and nothing else. Errors: `Memory`.
+/// Checks an opened file: it must be a table, and nothing else.
 fn check_opened<F: Input + Reasons>(
     alloc: Global,
     material: &Material,
     kind: Kind,
     file: &mut F,
-) -> Result<FileVerdict, CheckStop>
+) -> Result<FileVerdict, AllocError>
     requires { F.moved file.old ≡ [] }
-    ensures says { IfOk result (λ verdict. IsVerdictOn F.Input material.now kind file.old file.new verdict) }
-    ensures only { IsErrOf result CheckStop.Device → ⊥ }
+    ensures { IfOk result (λ verdict. IsVerdictOn F.Input material.now kind file.old file.new verdict) }
 {
     let size = match scan(alloc, material.copy(), kind, file, &mut NoSink, &mut ()) {
         Ok(scanned) => scanned.length,
         Err(ReadFault::Refused { place, reason }) => return Ok(FileVerdict::At(place, reason)),
         Err(ReadFault::Device) => return Ok(FileVerdict::Unread(file.reason())),
-        Err(ReadFault::Memory) => return Err(CheckStop::Memory),
+        Err(ReadFault::Memory) => return Err(AllocError),
     };
     let mut next = [0; 1];
     match take_whole(file, &mut next) {
@@ -107,19 +105,7 @@ fn judged(found: FileVerdict, is_met: bool) -> FileVerdict
     }
 }
 
-/// The verdict on a file that no list names.
-fn unlisted(found: FileVerdict) -> FileVerdict
-    ensures { result ≡ (if is_table found then FileVerdict.Sum SumFault.Unlisted else found) }
-{
-    if is_table(&found) {
-        FileVerdict::Sum(SumFault::Unlisted)
-    } else {
-        found
-    }
-}
-
-/// Checks an opened file, and compares `due` with the digest of the same bytes, and of those that follow a table. Errors:
-/// `Memory`.
+/// Checks an opened file, and compares `due` with the digest of the same bytes, and of those that follow a table.
 #[tactic(auto, using(crate::proofs::Hashing::no_table))]
 fn check_hashed<F: Input + Reasons + Drop, H: Hasher>(
     alloc: Global,
@@ -127,10 +113,9 @@ fn check_hashed<F: Input + Reasons + Drop, H: Hasher>(
     kind: Kind,
     file: F,
     due: &[u8],
-) -> Result<Checked<F>, CheckStop>
+) -> Result<Checked<F>, AllocError>
     requires { F.moved file ≡ [] }
-    ensures says { IfOk result (λ checked. IsHashedVerdictOn F.Input (λ m. bytes_eq (H.sum_of m) due.now) material.now kind file checked.input checked.verdict) }
-    ensures only { IsErrOf result CheckStop.Device → ⊥ }
+    ensures { IfOk result (λ checked. IsHashedVerdictOn F.Input (λ m. bytes_eq (H.sum_of m) due.now) material.now kind file checked.input checked.verdict) }
 {
     let mut hashed: Hashed<F, H> = Hashed::new(file);
     let found = check_opened(alloc, material, kind, &mut hashed)?;
@@ -152,17 +137,16 @@ fn check_hashed<F: Input + Reasons + Drop, H: Hasher>(
     Ok(Checked { input, verdict })
 }
 
-/// Checks an opened file, and compares its digest. Errors: `Memory`.
+/// Checks an opened file, and compares its digest.
 fn check_summed<F: Input + Reasons + Drop>(
     alloc: Global,
     material: &Material,
     kind: Kind,
     file: F,
     sum: Sum,
-) -> Result<Checked<F>, CheckStop>
+) -> Result<Checked<F>, AllocError>
     requires { F.moved file ≡ [] }
-    ensures says { IfOk result (λ checked. IsHashedVerdictOn F.Input (λ m. has_sum sum m) material.now kind file checked.input checked.verdict) }
-    ensures only { IsErrOf result CheckStop.Device → ⊥ }
+    ensures { IfOk result (λ checked. IsHashedVerdictOn F.Input (λ m. has_sum sum m) material.now kind file checked.input checked.verdict) }
 {
     match sum {
         Sum::Md5(due) => check_hashed::<F, Md5>(alloc, material, kind, file, &due),
@@ -172,17 +156,16 @@ fn check_summed<F: Input + Reasons + Drop>(
     }
 }
 
-/// Checks an opened file, and what its digest has to be. Errors: `Memory`.
+/// Checks an opened file, and what its digest has to be.
 fn check_due<F: Input + Reasons + Drop>(
     alloc: Global,
     material: &Material,
     kind: Kind,
     mut file: F,
     due: Due,
-) -> Result<Checked<F>, CheckStop>
+) -> Result<Checked<F>, AllocError>
     requires { F.moved file ≡ [] }
-    ensures says { IfOk result (λ checked. IsDueVerdictOn F.Input due material.now kind file checked.input checked.verdict) }
-    ensures only { IsErrOf result CheckStop.Device → ⊥ }
+    ensures { IfOk result (λ checked. IsDueVerdictOn F.Input due material.now kind file checked.input checked.verdict) }
 {
     match due {
         Due::Any => {
@@ -194,9 +177,14 @@ fn check_due<F: Input + Reasons + Drop>(
         }
         Due::Unlisted => {
             let found = check_opened(alloc, material, kind, &mut file)?;
+            let verdict = if is_table(&found) {
+                FileVerdict::Sum(SumFault::Unlisted)
+            } else {
+                found
+            };
             Ok(Checked {
                 input: file,
-                verdict: unlisted(found),
+                verdict,
             })
         }
         Due::Sum(sum) => check_summed(alloc, material, kind, file, sum),
@@ -204,17 +192,16 @@ fn check_due<F: Input + Reasons + Drop>(
 }
 
 /// Checks an opened file, and what its digest has to be; of a table it computes the SHA-256 digest of the bytes that were
-/// checked, and of those that follow it. Errors: `Memory`.
+/// checked, and of those that follow it.
 fn check_digested<F: Input + Reasons + Drop>(
     alloc: Global,
     material: &Material,
     kind: Kind,
     file: F,
     due: Due,
-) -> Result<CheckedFile, CheckStop>
+) -> Result<CheckedFile, AllocError>
     requires { F.moved file ≡ [] }
-    ensures says { IfOk result (λ found. (read : F) × IsDigestedOn F.Input due material.now kind file read found) }
-    ensures only { IsErrOf result CheckStop.Device → ⊥ }
+    ensures { IfOk result (λ found. (read : F) × IsDigestedOn F.Input due material.now kind file read found) }
 {
     let fresh: Hashed<F, Sha256> = Hashed::new(file);
     let Checked {
@@ -233,7 +220,7 @@ fn check_digested<F: Input + Reasons + Drop>(
     })
 }
 
-/// Checks an opened file, what its digest has to be, and computes its SHA-256 digest if that is asked for. Errors: `Memory`.
+/// Checks an opened file, what its digest has to be, and computes its SHA-256 digest if that is asked for.
 #[tactic(auto, using(crate::proofs::Hashing::found_digested))]
 fn check_file<F: Input + Reasons + Drop>(
     alloc: Global,
@@ -242,10 +229,9 @@ fn check_file<F: Input + Reasons + Drop>(
     file: F,
     due: Due,
     has_digest: bool,
-) -> Result<CheckedFile, CheckStop>
+) -> Result<CheckedFile, AllocError>
     requires { F.moved file ≡ [] }
-    ensures says { IfOk result (λ found. (read : F) × IsFoundOn has_digest F.Input due material.now kind file read found) }
-    ensures only { IsErrOf result CheckStop.Device → ⊥ }
+    ensures { IfOk result (λ found. (read : F) × IsFoundOn has_digest F.Input due material.now kind file read found) }
 {
     if has_digest {
         return check_digested(alloc, material, kind, file, due);
@@ -255,7 +241,7 @@ fn check_file<F: Input + Reasons + Drop>(
 }
 
 /// Checks the file at a path, as a table of the name and kind that are given or in the path, and its digest; computes that by
-/// SHA-256 if it is asked for. Errors: `Memory`.
+/// SHA-256 if it is asked for.
 pub fn check_path<S: FileSystem>(
     alloc: Global,
     system: &mut S,
@@ -263,9 +249,8 @@ pub fn check_path<S: FileSystem>(
     path: &str,
     due: Due,
     has_digest: bool,
-) -> Result<CheckedFile, CheckStop>
-    ensures verdict { IfOk result (λ found. IsFileVerdict S.content S.failures S.File.Input naming.entry due has_digest path.now system.old system.new found) }
-    ensures only { IsErrOf result CheckStop.Device → ⊥ }
+) -> Result<CheckedFile, AllocError>
+    ensures { IfOk result (λ found. IsFileVerdict S.content S.failures S.File.Input naming.entry due has_digest path.now system.old system.new found) }
 {
     let Some((name, kind)) = named_as(naming, path) else {
         return Ok(CheckedFile::undigested(FileVerdict::Ending));
@@ -276,7 +261,7 @@ pub fn check_path<S: FileSystem>(
     };
     match system.open(path) {
         Ok(file) => check_file(alloc, &material, kind, file, due, has_digest),
-        Err(FileFault::Memory) => Err(CheckStop::Memory),
+        Err(FileFault::Memory) => Err(AllocError),
         Err(fault) => Ok(CheckedFile::undigested(FileVerdict::Unopened(fault))),
     }
 }

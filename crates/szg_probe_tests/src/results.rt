@@ -9,7 +9,7 @@ use std::mem::replace;
 use std::process::Abort;
 use szg_chess::Position;
 use szg_file::{Table, read_bytes};
-use szg_files::{FileFault, FileSystem, MemoryFile, MemoryFiles, RangeFault};
+use szg_files::{FileFault, FileSystem, MemoryFile, MemoryFiles};
 use szg_fixtures::{
     Fixture, kbvk_wdl_constant, knvkp_wdl_constant, kqvk_dtz_packed, kqvk_wdl_true_but_for_ends,
     kqvk_wdl_unpaired,
@@ -421,17 +421,17 @@ impl<'a> FileSystem for Unsteady<'a> {
         size: u64,
         offset: u64,
         bytes: &mut [u8],
-    ) -> Result<(), RangeFault> {
+    ) -> Result<(), FileFault> {
         if !path.ends_with(".rtbw") {
-            return Err(RangeFault::Failed(FileFault::System(Error::from(self.kind))));
+            return Err(FileFault::System(Error::from(self.kind)));
         }
         let known = replace(&mut self.next, self.later);
         if known.len() as u64 != size || size < offset {
-            return Err(RangeFault::Ended);
+            return Err(FileFault::Ended);
         }
         let rest = &known[offset as usize..];
         if rest.len() < bytes.len() {
-            return Err(RangeFault::Ended);
+            return Err(FileFault::Ended);
         }
         bytes.copy_from_slice(&rest[..bytes.len()]);
         Ok(())
@@ -454,6 +454,7 @@ fn error_met(
     let mut folders = Folders::new(rt.alloc(), &["t"]);
     match folders.line(rt.alloc(), &mut system, MATE_IN_ONE) {
         Err(ResultStop::Failed(FileFault::System(error))) => Some(error.kind()),
+        Err(ResultStop::Failed(FileFault::Ended)) => Some(ErrorKind::UnexpectedEof),
         _ => None,
     }
 }

@@ -11,7 +11,7 @@ use crate::folders::{ResultStop, copy_of};
 use std::alloc::{AllocError, Global};
 use std::io::ErrorKind;
 use szg_file::{ByteRange, FetchFault, ReadFault, Table, open_front, read};
-use szg_files::{FileFault, FileSystem, RangeFault, Reasons};
+use szg_files::{FileFault, FileSystem, Reasons};
 use szg_io::Input;
 use szg_named::named_by;
 use szg_place::Spot;
@@ -202,7 +202,7 @@ pub(crate) fn fetch<S: FileSystem>(
             reason: MissingReason::Block { number, offset },
         })),
         // the block has the range's length
-        Err(FetchFault::Source) => Err(ended()),
+        Err(FetchFault::Source) => Err(ResultStop::Failed(FileFault::Ended)),
     }
 }
 
@@ -225,14 +225,8 @@ fn block_of<S: FileSystem>(
     }
     match system.read_at(table.path.as_str(), table.size, offset, &mut block) {
         Ok(()) => Ok(block),
-        Err(RangeFault::Ended) => Err(ended()),
-        Err(RangeFault::Failed(fault)) => Err(ResultStop::Failed(fault)),
+        Err(fault) => Err(ResultStop::Failed(fault)),
     }
-}
-
-/// The file ends where it did not before.
-fn ended() -> ResultStop {
-    ResultStop::Failed(FileFault::System(ErrorKind::UnexpectedEof.into()))
 }
 
 /// Returns why there is no table.
@@ -241,10 +235,7 @@ fn stop_of(missing: &Missing, fault: ReadFault, file: &impl Reasons) -> ResultSt
         ReadFault::Refused { place, reason } => {
             ResultStop::Table(missing.material.copy(), missing.kind, place, reason)
         }
-        ReadFault::Device => ResultStop::Failed(match file.reason() {
-            Some(error) => FileFault::System(error),
-            None => FileFault::System(ErrorKind::Other.into()),
-        }),
+        ReadFault::Device => ResultStop::Failed(FileFault::of(file.reason())),
         ReadFault::Memory => ResultStop::Memory,
     }
 }

@@ -14,3 +14,6 @@ returns-in-Ok-published-clause-stated g c =
     (done_in g.S.FileSystem.content g.S.FileSystem.failures g.S.File.Input g.R.Input _ g.W.Output c.args.task.now c.in-Some.target c.args.system.now c.carry_out_on-2.new.system c.args.reader.now c.carry_out_on-2.new.reader
     c.in-Ok-create.draft.file c.carry_out_on-2.new.writer c.args.writer.now (text_of c.in-Ok-create.draft.file) c.in-Ok-published.published c.args.source
     refl c.in-Ok-create.ensures.empty (ap (λ (bytes : List ℕ). Some bytes) (sym c.in-Ok-published.ensures.text)) (c.in-Ok-published.ensures.target ∙ c.in-Ok-create.ensures.target) c.in-Ok-carry_out_on.ensures.stated)
+
+pub returns-in-Err-Device-clause-memory : goal.returns-in-Err-Device-clause-memory
+returns-in-Err-Device-clause-memory g c = λ is. absurd (c.device_stop.ensures.memory (cc))

@@ -6,17 +6,17 @@ use Rattle.szg_named.specs.declared.file_verdict.SumFault.TheVariants.{Differs}
 use Rattle.szg_named.proofs.Hashing.{compared, on_err, on_ok}
 use Rattle.szg_named.proofs.one.check_hashed.Goals as goal
 
-pub returns-then-is_err-clause-says : goal.returns-then-is_err-clause-says
-returns-then-is_err-clause-says g c =
+pub returns-then-is_err : goal.returns-then-is_err
+returns-then-is_err g c =
     let table : is_table c.in_ok-found.found ≡ true = search rules in
     let failed = on_err c.read_on.result (sym c.is_err.ensures.value ∙ c.if-is_err.true) c.read_on.ensures.failed in
     compared g.F.Input (λ m. bytes_eq (g.H.Hasher.sum_of m) c.args.due.now) c.args.material.now c.args.kind c.args.file _ c.new-hashed.result c.check_opened.new.file c.read_on.new.input c.in_ok-found.found _ c.new-hashed.ensures (search rules)
-    c.in_ok-found.ensures.says table (inr (c.reason.result, refl, failed))
+    c.in_ok-found.ensures table (inr (c.reason.result, refl, failed))
 
-pub returns-clause-says : goal.returns-clause-says
-returns-clause-says g c =
+pub returns : goal.returns
+returns g c =
     let table : is_table c.in_ok-found.found ≡ true = search rules in
     let end = on_ok c.read_on.result (sym c.is_err.ensures.value ∙ c.if-is_err.false) c.read_on.ensures.end in
     compared g.F.Input (λ m. bytes_eq (g.H.Hasher.sum_of m) c.args.due.now) c.args.material.now c.args.kind c.args.file _ c.new-hashed.result c.check_opened.new.file c.read_on.new.input c.in_ok-found.found _ c.new-hashed.ensures (search rules)
-    c.in_ok-found.ensures.says table
+    c.in_ok-found.ensures table
     (inl (end, (c.read_on.ensures.rest.0, c.read_on.ensures.rest.1), c.judged-verdict.ensures ∙ ap (λ (b : Bool). if b then c.in_ok-found.found else Sum Differs) c.compared-input.ensures.met))

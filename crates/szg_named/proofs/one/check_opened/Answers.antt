@@ -10,8 +10,8 @@ one_of P (byte ∷ []) one h = (byte, h)
 one_of P (byte ∷ next ∷ l) one h = absurd (omega (arith, one))
 
 -- bytes follow the table
-pub returns-in-Ok-take_whole-clause-says : goal.returns-in-Ok-take_whole-clause-says
-returns-in-Ok-take_whole-clause-says g c =
+pub returns-in-Ok-take_whole : goal.returns-in-Ok-take_whole
+returns-in-Ok-take_whole g c =
     let scanned = c.in-Ok.ensures.scanned in
     let read = subst (λ (m : Sides). IsFileRead g.F.Input m c.args.kind c.args.file.now c.scan.new.input (Ok scanned.table)) c.copy.ensures scanned.read in
     let chunk : List ℕ = c.take_whole.new.chunk in

@@ -3,22 +3,22 @@ use Rattle.szg_sums.specs.declared.sum.Sum.TheVariants as sums
 use Rattle.szg_named.proofs.Hashing.{summed}
 use Rattle.szg_named.proofs.one.check_summed.Goals as goal
 
-pub returns-in-Md5-clause-says : goal.returns-in-Md5-clause-says
-returns-in-Md5-clause-says g c =
+pub returns-in-Md5 : goal.returns-in-Md5
+returns-in-Md5 g c =
     let is : c.args.sum ≡ sums.Md5 c.in-Md5.due = search rules in
-    summed g.F.Input c.args.sum (sums.Md5 c.in-Md5.due) c.args.material.now c.args.kind c.args.file c.check_hashed.result is c.check_hashed.ensures.says
+    summed g.F.Input c.args.sum (sums.Md5 c.in-Md5.due) c.args.material.now c.args.kind c.args.file c.check_hashed.result is c.check_hashed.ensures
 
-pub returns-in-Sha1-clause-says : goal.returns-in-Sha1-clause-says
-returns-in-Sha1-clause-says g c =
+pub returns-in-Sha1 : goal.returns-in-Sha1
+returns-in-Sha1 g c =
     let is : c.args.sum ≡ sums.Sha1 c.in-Sha1.due = search rules in
-    summed g.F.Input c.args.sum (sums.Sha1 c.in-Sha1.due) c.args.material.now c.args.kind c.args.file c.check_hashed-in-Sha1.result is c.check_hashed-in-Sha1.ensures.says
+    summed g.F.Input c.args.sum (sums.Sha1 c.in-Sha1.due) c.args.material.now c.args.kind c.args.file c.check_hashed-in-Sha1.result is c.check_hashed-in-Sha1.ensures
 
-pub returns-in-Sha256-clause-says : goal.returns-in-Sha256-clause-says
-returns-in-Sha256-clause-says g c =
+pub returns-in-Sha256 : goal.returns-in-Sha256
+returns-in-Sha256 g c =
     let is : c.args.sum ≡ sums.Sha256 c.in-Sha256.due = search rules in
-    summed g.F.Input c.args.sum (sums.Sha256 c.in-Sha256.due) c.args.material.now c.args.kind c.args.file c.check_hashed-in-Sha256.result is c.check_hashed-in-Sha256.ensures.says
+    summed g.F.Input c.args.sum (sums.Sha256 c.in-Sha256.due) c.args.material.now c.args.kind c.args.file c.check_hashed-in-Sha256.result is c.check_hashed-in-Sha256.ensures
 
-pub returns-in-Sha512-clause-says : goal.returns-in-Sha512-clause-says
-returns-in-Sha512-clause-says g c =
+pub returns-in-Sha512 : goal.returns-in-Sha512
+returns-in-Sha512 g c =
     let is : c.args.sum ≡ sums.Sha512 c.in-Sha512.due = search rules in
-    summed g.F.Input c.args.sum (sums.Sha512 c.in-Sha512.due) c.args.material.now c.args.kind c.args.file c.check_hashed-in-Sha512.result is c.check_hashed-in-Sha512.ensures.says
+    summed g.F.Input c.args.sum (sums.Sha512 c.in-Sha512.due) c.args.material.now c.args.kind c.args.file c.check_hashed-in-Sha512.result is c.check_hashed-in-Sha512.ensures
