@@ -106,9 +106,14 @@ pub record AsksForJob (finds : CommandForm → List (List ℕ) → ArgMatches �
 abbrev pub has_kind : Found → Bool
 has_kind found = is_some (named_as (first_value found (codes "name")) (kind_given found) (word_of found (codes "FILE")))
 
+-- a word is none of its argument's numbers
+abbrev pub is_number : WordsFault → Bool
+is_number (Number argument word) = true
+is_number fault = false
+
 -- Why the values that were found make no job.
 abbrev pub IsWordsFault : List ℕ → Found → WordsFault → Type 0
-IsWordsFault command found (Number fault) = has_numbers command found ≡ false
+IsWordsFault command found (Number argument word) = has_numbers command found ≡ false
 IsWordsFault command found (Unused argument) = has_unused found ≡ true
 IsWordsFault command found Kind = has_kind found ≡ false
 IsWordsFault command found (Shard word) = is_some (first_value found (codes "shard")) ≡ true

@@ -2,7 +2,7 @@
 
 use clap::builder::{ValueParser, ValueRange};
 use clap::{Arg, ArgAction};
-use std::alloc::Global;
+use std::alloc::{AllocError, Global};
 
 /// The form of an argument on a command line.
 #[derive(Clone, Copy)]
@@ -20,15 +20,17 @@ enum ArgumentForm {
 /// An argument of a command.
 #[derive(Clone, Copy)]
 pub struct Argument {
-    id: &'static str,
+    pub id: &'static str,
     form: ArgumentForm,
     action: ArgAction,
     is_required: bool,
     short: Option<char>,
     default: Option<&'static str>,
     values: ValueParser<'static>,
-    /// Whether a negative number is a value, and no option.
-    is_number: bool,
+    /// The least number that it takes.
+    pub least: u64,
+    /// The greatest number that it takes. 0 if it takes none.
+    pub greatest: u64,
     help: &'static str,
 }
 
@@ -41,7 +43,8 @@ const WORD: Argument = Argument {
     short: None,
     default: None,
     values: ValueParser::String,
-    is_number: false,
+    least: 0,
+    greatest: 0,
     help: "",
 };
 
@@ -62,7 +65,6 @@ const OPTION: Argument = Argument {
 /// An option whose value is a number.
 const NUMBER: Argument = Argument {
     is_required: false,
-    is_number: true,
     ..WORD
 };
 
@@ -211,7 +213,7 @@ pub(crate) const KIND: Argument = Argument {
 
 pub(crate) const INDEX: Argument = Argument {
     id: "INDEX",
-    is_number: true,
+    greatest: (1 << 63) - 1,
     help: "Index in the part and side, from 0 to its number of values minus 1",
     ..WORD
 };
@@ -242,6 +244,7 @@ pub(crate) const SIDE: Argument = Argument {
     id: "side",
     form: ArgumentForm::Option("SIDE"),
     default: Some("0"),
+    greatest: 1,
     help: "Side, 0 or 1: in a WDL table with two sides, 0 is where the first side of the name{n}moves; every other table has side 0 only",
     ..NUMBER
 };
@@ -259,6 +262,8 @@ pub(crate) const FORM: Argument = Argument {
     id: "form",
     form: ArgumentForm::Option("FORM"),
     default: Some("2"),
+    least: 1,
+    greatest: 2,
     help: "Format of the dump: 1 writes a line per value, 2 a line per run of equal values",
     ..NUMBER
 };
@@ -276,6 +281,8 @@ pub(crate) const BLOCK: Argument = Argument {
     id: "block",
     form: ArgumentForm::Option("BITS"),
     default: Some("6"),
+    least: 5,
+    greatest: 10,
     help: "Size of a block: 2^BITS bytes, with BITS from 5 to 10",
     ..NUMBER
 };
@@ -284,6 +291,8 @@ pub(crate) const SPAN: Argument = Argument {
     id: "span",
     form: ArgumentForm::Option("BITS"),
     default: Some("12"),
+    least: 1,
+    greatest: 16,
     help: "Span of a sparse index entry: 2^BITS values, with BITS from 1 to 16",
     ..NUMBER
 };
@@ -292,6 +301,7 @@ pub(crate) const ROUNDS: Argument = Argument {
     id: "rounds",
     form: ArgumentForm::Option("COUNT"),
     default: Some("256"),
+    greatest: 4000,
     help: "Maximum number of pairs in a dictionary, from 0 to 4000",
     ..NUMBER
 };
@@ -309,13 +319,22 @@ pub(crate) const VERIFY: Argument = Argument {
 };
 
 impl Argument {
+    /// Returns its form in a usage.
+    pub(crate) fn shown(&self, alloc: Global) -> Result<String, AllocError> {
+        let id = self.id;
+        match self.form {
+            ArgumentForm::Option(value) => format!(in alloc; "--{id} <{value}>"),
+            _ => format!(in alloc; "<{id}>"),
+        }
+    }
+
     /// The argument as `clap` has it.
     pub(crate) fn to_clap<'a>(&self, alloc: Global) -> Arg<'a> {
         let mut arg = Arg::new(alloc, self.id)
             .action(self.action)
             .required(self.is_required)
             .value_parser(self.values)
-            .allow_negative_numbers(self.is_number)
+            .allow_negative_numbers(self.greatest > 0)
             .help(self.help);
         if let Some(letter) = self.short {
             arg = arg.short(letter);

@@ -69,11 +69,6 @@ fn is_file_option(word: &str) -> bool {
         || word.starts_with("--shard")
 }
 
-/// Whether the option takes the next word as its value, in each form of `build`.
-fn takes_value(word: &str) -> bool {
-    matches!(word, "--plan" | "--block" | "--span" | "--rounds")
-}
-
 /// Whether the words of `build` name a file: an option of files, or a word that is neither an option nor its value.
 fn build_names_files(words: &[&str]) -> bool {
     let mut is_value = false;
@@ -84,7 +79,7 @@ fn build_names_files(words: &[&str]) -> bool {
         if !is_value && !word.starts_with('-') {
             return true;
         }
-        is_value = takes_value(word);
+        is_value = matches!(*word, "--plan" | "--block" | "--span" | "--rounds");
     }
     false
 }
@@ -106,11 +101,6 @@ fn check_names_files(words: &[&str]) -> bool {
     }
 }
 
-/// Whether only help is asked for: then it is the help for files.
-fn asks_help(command: &str, rest: &[&str]) -> bool {
-    command == "help" || (rest.len() == 1 && matches!(rest[0], "-h" | "--help"))
-}
-
 /// Whether a command line names files: a word that ends as a table's file does, an option that only files have, a dump's
 /// file, or what `check` is to check. So is taken a command line that only asks for help.
 pub(crate) fn names_files(words: &[&str]) -> bool {
@@ -118,7 +108,7 @@ pub(crate) fn names_files(words: &[&str]) -> bool {
         return false;
     }
     let rest = &words[2..];
-    if asks_help(words[1], rest) {
+    if words[1] == "help" || (rest.len() == 1 && matches!(rest[0], "-h" | "--help")) {
         return true;
     }
     if words[1] == "build" {
@@ -185,6 +175,7 @@ fn report_format_of(word: Option<&str>) -> ReportFormat
 }
 
 /// The job that a command and its words make.
+#[tactic(auto, using(crate::proofs::Words::number_is_none))]
 fn job_in<'a>(
     alloc: Global,
     command: &str,
@@ -287,6 +278,7 @@ fn check_in<'a>(alloc: Global, chosen: &ArgMatches<'a>) -> Result<FileJob<'a>, W
 }
 
 /// The request on the table at a path.
+#[tactic(auto, using(crate::proofs::Words::number_is_none))]
 fn table_job_in<'a>(command: &str, chosen: &ArgMatches<'a>) -> Result<FileJob<'a>, WordsFault<'a>>
     requires { bytes_eq command.now (codes "build") ≡ false }
     ensures job { IfOk result (IsJobIn command.now (found_of chosen.now)) }

@@ -3,15 +3,14 @@ ghost use Rattle.clap.specs.Matches.{first_value, found_of};
 ghost use Rattle.clap.specs.Values.{kind_of as kind_of_error};
 ghost use Rattle.szg_commands.specs.Answers.{number_of_class, number_of_form};
 ghost use Rattle.szg_commands.specs.Requested.{IsActionOf, IsActionOnMen, IsPackingIn, IsTaskIn, action_of_men, parsed_action, parsed_look_up, names_men};
-ghost use Rattle.szg_commands.specs.Chosen.{AsksFor, AsksForNone, line_of, has_numbers, has_sizes, has_table_numbers, has_unused, is_given as is_typed};
+ghost use Rattle.szg_commands.specs.Chosen.{AsksFor, AsksForNone, is_number, line_of, has_numbers, has_sizes, has_table_numbers, has_unused, is_given as is_typed};
 ghost use Rattle.szg_commands.specs.Words.{is_word, parsed_class, parsed_form, parsed_kind, parsed_mover, number_from, parsed_part, parsed_side, word_of};
 
+use crate::arguments::{Argument, BLOCK, FORM, INDEX, ROUNDS, SIDE, SPAN};
 use crate::command_line::{CommandForm, command_of, program};
 use crate::finding::Finder;
 use crate::men::placement_in;
-use crate::numbers::{
-    BLOCK, FORM, INDEX, NumberArgument, NumberFault, ROUNDS, SIDE, SPAN, number_of,
-};
+use crate::numbers::number_of;
 use crate::refusal::Refusal;
 use clap::error::ErrorKind;
 use clap::parser::ValueSource;
@@ -135,7 +134,7 @@ pub fn parse<'a, F: Finder>(
     }
     match task_in(command, chosen) {
         Ok(task) => Ok(task),
-        Err(fault) => Err(words_error(alloc, command, form, WordsFault::Number(fault))?),
+        Err(fault) => Err(words_error(alloc, command, form, fault)?),
     }
 }
 
@@ -153,28 +152,17 @@ pub(crate) fn missing_command(alloc: Global, form: CommandForm) -> Result<Error,
 
 /// Why the words of a command ask for nothing.
 #[derive(Clone, Copy)]
-pub(crate) enum WordsFault<'a> {
+pub enum WordsFault<'a> {
     /// A word is none of its argument's numbers.
-    Number(NumberFault<'a>),
+    Number { argument: Argument, word: &'a str },
     /// A small plan doesn't take this number.
-    Unused(NumberArgument),
+    Unused(Argument),
     /// The file's ending names no kind, and none is given.
     Kind,
     /// A word is no shard.
     Shard(&'a str),
     /// A growth was refused.
     Memory,
-}
-
-impl<'a> From<NumberFault<'a>> for WordsFault<'a> {
-    ghost use Rattle.std.specs.Prelude.{◌≡◌};
-    ghost use Rattle.szg_commands.specs.declared.request.WordsFault.TheVariants.{Number};
-
-    ghost from_gives = { λ fault stated. stated ≡ Number fault };
-
-    fn from(fault: NumberFault<'a>) -> WordsFault<'a> {
-        WordsFault::Number(fault)
-    }
 }
 
 /// Creates the error of a command's words that ask for nothing.
@@ -187,9 +175,9 @@ pub(crate) fn words_error(
     ensures { fault.entry ≡ WordsFault.Memory → IfOk result (λ error. ⊥) }
 {
     let (kind, message) = match fault {
-        WordsFault::Number(NumberFault { argument, word }) => {
-            let NumberArgument {
-                shown,
+        WordsFault::Number { argument, word } => {
+            let shown = argument.shown(alloc)?;
+            let Argument {
                 least,
                 greatest,
                 ..
@@ -199,7 +187,8 @@ pub(crate) fn words_error(
             )?;
             (ErrorKind::ValueValidation, message)
         }
-        WordsFault::Unused(NumberArgument { shown, .. }) => {
+        WordsFault::Unused(argument) => {
+            let shown = argument.shown(alloc)?;
             let message = format!(in alloc;
                 "the argument '--plan small' cannot be used with '{shown}'"
             )?;
@@ -251,7 +240,7 @@ fn is_typed(chosen: &ArgMatches<'_>, argument: &str) -> bool
 }
 
 /// Returns the first number of a fixed plan that is given with a small plan.
-pub(crate) fn unused_by_plan(chosen: &ArgMatches<'_>) -> Option<NumberArgument>
+pub(crate) fn unused_by_plan(chosen: &ArgMatches<'_>) -> Option<Argument>
     ensures { MatchOption result (has_unused (found_of chosen.now) ≡ false) (λ argument. has_unused (found_of chosen.now) ≡ true) }
 {
     if !is_small(chosen) {
@@ -283,9 +272,9 @@ pub(crate) fn usage_error(
 }
 
 /// The task that a command and its words make.
-fn task_in<'a>(command: &str, chosen: &ArgMatches<'a>) -> Result<Task<'a>, NumberFault<'a>>
+fn task_in<'a>(command: &str, chosen: &ArgMatches<'a>) -> Result<Task<'a>, WordsFault<'a>>
     ensures task { IfOk result (IsTaskIn command.now (found_of chosen.now)) }
-    ensures none { IfErr result (λ fault. has_numbers command.now (found_of chosen.now) ≡ false) }
+    ensures none { IfErr result (λ fault. (is_number fault ≡ true) × (has_numbers command.now (found_of chosen.now) ≡ false)) }
 {
     if command == "build" {
         return Ok(Task::Build(packing_in(chosen)?));
@@ -296,9 +285,9 @@ fn task_in<'a>(command: &str, chosen: &ArgMatches<'a>) -> Result<Task<'a>, Numbe
 }
 
 /// Returns the packing that the words ask for.
-pub(crate) fn packing_in<'a>(chosen: &ArgMatches<'a>) -> Result<Choice, NumberFault<'a>>
+pub(crate) fn packing_in<'a>(chosen: &ArgMatches<'a>) -> Result<Choice, WordsFault<'a>>
     ensures packing { IfOk result (IsPackingIn (found_of chosen.now)) }
-    ensures none { IfErr result (λ fault. (is_word (first_value (found_of chosen.now) (codes "plan")) (codes "small") ≡ false) × (has_sizes (found_of chosen.now) ≡ false)) }
+    ensures none { IfErr result (λ fault. (is_number fault ≡ true) × (is_word (first_value (found_of chosen.now) (codes "plan")) (codes "small") ≡ false) × (has_sizes (found_of chosen.now) ≡ false)) }
 {
     if is_small(chosen) {
         return Ok(Choice::Small);
@@ -307,11 +296,11 @@ pub(crate) fn packing_in<'a>(chosen: &ArgMatches<'a>) -> Result<Choice, NumberFa
 }
 
 /// Parses the numbers of a fixed plan.
-pub fn sizes_in<'a>(chosen: &ArgMatches<'a>) -> Result<Packing, NumberFault<'a>>
+pub fn sizes_in<'a>(chosen: &ArgMatches<'a>) -> Result<Packing, WordsFault<'a>>
     ensures block { IfOk result (λ sizes. number_from 5 10 (word_of (found_of chosen.now) (codes "block")) ≡ Some sizes.block_bits) }
     ensures span { IfOk result (λ sizes. number_from 1 16 (word_of (found_of chosen.now) (codes "span")) ≡ Some sizes.span_bits) }
     ensures rounds { IfOk result (λ sizes. number_from 0 4000 (word_of (found_of chosen.now) (codes "rounds")) ≡ Some sizes.rounds) }
-    ensures none { IfErr result (λ fault. has_sizes (found_of chosen.now) ≡ false) }
+    ensures none { IfErr result (λ fault. (is_number fault ≡ true) × (has_sizes (found_of chosen.now) ≡ false)) }
 {
     Ok(Packing {
         block_bits: number_of(chosen, BLOCK)? as u8,
@@ -326,13 +315,13 @@ pub(crate) fn request_on<'a>(
     chosen: &ArgMatches<'a>,
     name: &'a str,
     kind: Kind,
-) -> Result<Request<'a>, NumberFault<'a>>
+) -> Result<Request<'a>, WordsFault<'a>>
     ensures name { IfOk result (λ request. request.name.now ≡ name.now) }
     ensures kind { IfOk result (λ request. request.kind ≡ kind) }
     ensures part { IfOk result (λ request. request.part ≡ parsed_part (first_value (found_of chosen.now) (codes "part"))) }
     ensures side { IfOk result (λ request. parsed_side command.now (found_of chosen.now) ≡ Some request.side) }
     ensures action { IfOk result (λ request. IsActionOf command.now (found_of chosen.now) request.action) }
-    ensures none { IfErr result (λ fault. has_table_numbers command.now (found_of chosen.now) ≡ false) }
+    ensures none { IfErr result (λ fault. (is_number fault ≡ true) × (has_table_numbers command.now (found_of chosen.now) ≡ false)) }
 {
     let action = action_in(command, chosen)?;
     let side = side_in(command, chosen)?;
@@ -346,9 +335,9 @@ pub(crate) fn request_on<'a>(
 }
 
 /// The side that is asked, 0 for a command that asks for none.
-fn side_in<'a>(command: &str, chosen: &ArgMatches<'a>) -> Result<u8, NumberFault<'a>>
+fn side_in<'a>(command: &str, chosen: &ArgMatches<'a>) -> Result<u8, WordsFault<'a>>
     ensures side { IfOk result (λ side. parsed_side command.now (found_of chosen.now) ≡ Some side) }
-    ensures none { IfErr result (λ fault. IsNone (parsed_side command.now (found_of chosen.now))) }
+    ensures none { IfErr result (λ fault. (is_number fault ≡ true) × IsNone (parsed_side command.now (found_of chosen.now))) }
 {
     match command {
         "get" | "values" | "placement" => Ok(number_of(chosen, SIDE)? as u8),
@@ -357,9 +346,9 @@ fn side_in<'a>(command: &str, chosen: &ArgMatches<'a>) -> Result<u8, NumberFault
 }
 
 /// What a command asks of a table.
-fn action_in<'a>(command: &str, chosen: &ArgMatches<'a>) -> Result<Action, NumberFault<'a>>
+fn action_in<'a>(command: &str, chosen: &ArgMatches<'a>) -> Result<Action, WordsFault<'a>>
     ensures action { IfOk result (IsActionOf command.now (found_of chosen.now)) }
-    ensures none { IfErr result (λ fault. (names_men command.now ≡ false) × IsNone (parsed_action command.now (found_of chosen.now))) }
+    ensures none { IfErr result (λ fault. (is_number fault ≡ true) × (names_men command.now ≡ false) × IsNone (parsed_action command.now (found_of chosen.now))) }
 {
     if names_men(command) {
         return Ok(action_on_men(command, chosen));
@@ -375,9 +364,9 @@ fn names_men(command: &str) -> bool
 }
 
 /// What a command asks of a table, where it names no men.
-fn action_without_men<'a>(command: &str, chosen: &ArgMatches<'a>) -> Result<Action, NumberFault<'a>>
+fn action_without_men<'a>(command: &str, chosen: &ArgMatches<'a>) -> Result<Action, WordsFault<'a>>
     ensures action { IfOk result (λ action. parsed_action command.now (found_of chosen.now) ≡ Some action) }
-    ensures none { IfErr result (λ fault. IsNone (parsed_action command.now (found_of chosen.now))) }
+    ensures none { IfErr result (λ fault. (is_number fault ≡ true) × IsNone (parsed_action command.now (found_of chosen.now))) }
 {
     Ok(match command {
         "check" => Action::Check,

@@ -24,7 +24,7 @@ returns-in-Ok-clause-queried g c = record {
 }
 
 no_job : (command : List ℕ) (found : Found) (matches : ArgMatches) (fault : WordsFault) → IsChosen matches command found → IsWordsFault command found fault → (fault ≡ Memory → ⊥) → NamesNoJob matches
-no_job command found matches (Number fault) chosen is other = inr (command, found, chosen, inr (inl is))
+no_job command found matches (Number argument stated) chosen is other = inr (command, found, chosen, inr (inl is))
 no_job command found matches (Unused argument) chosen is other = inr (command, found, chosen, inl is)
 no_job command found matches Kind chosen is other = inr (command, found, chosen, inr (inr (inl is)))
 no_job command found matches (Shard word) chosen is other = inr (command, found, chosen, inr (inr (inr is)))

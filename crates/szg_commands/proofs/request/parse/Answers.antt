@@ -25,4 +25,4 @@ pub returns-clause-none : goal.returns-clause-none
 returns-clause-none g c =
     let found = subst (λ (words : List (List ℕ)). g.F.Finder.finds Streams words c.in_ok-matches.matches) c.line_of-words.ensures c.in_ok-matches.ensures.found in
     let chosen : IsChosen c.in_ok-matches.matches c.in-Some.command.now (found_of c.in-Some.chosen.now) = record { named = sym c.in-Some.ensures.name; values = sym c.in-Some.ensures.rows } in
-    inr (inr (c.in_ok-matches.matches, found, inr (c.in-Some.command.now, found_of c.in-Some.chosen.now, chosen, inr c.in-Err.ensures.none)))
+    inr (inr (c.in_ok-matches.matches, found, inr (c.in-Some.command.now, found_of c.in-Some.chosen.now, chosen, inr c.in-Err.ensures.none.1)))
