@@ -15,7 +15,7 @@ ghost use Rattle.szg_commands.specs.declared.request.Task.{Task};
 use crate::building::build_and_write;
 use crate::description::table_description;
 use crate::finding::{Clap, Finder};
-use crate::lookups::{counted_answer, get_answer, write_all_values};
+use crate::lookups::{get_answer, write_all_values};
 use crate::outcome::Outcome;
 use crate::placements::{index_line, outcome_answer, placement_answer};
 use crate::refusal::{Refusal, Stop};
@@ -209,10 +209,10 @@ fn answer_request<W: Output>(
             let text = table_description(alloc, table)?;
             say(writer, text.as_bytes())
         }
-        Action::Get(index) => say_line(writer, get_answer(alloc, table, request, *index)),
+        Action::Get(index) => say_line(writer, get_answer(alloc, table, request, *index, false)),
         Action::GetCounted(index) => say_line(
             writer,
-            counted_answer(alloc, table, request, *index),
+            get_answer(alloc, table, request, *index, true),
         ),
         Action::Values => write_all_values(alloc, table, request, writer),
         Action::Copy => match write(table, writer) {

@@ -1,6 +1,6 @@
 //! The commands that look values up.
 
-ghost use Rattle.std.specs.Prelude.{◌≡◌, ◌⊎◌, ℕ, ◌<◌, List, ◌++◌, flat_map, Some, None, IsSome, IfSome, IfErr, OnOk, IfOk, Err, IsErrOf, replicate, string_bytes};
+ghost use Rattle.std.specs.Prelude.{◌≡◌, ◌⊎◌, ℕ, ◌<◌, List, ◌++◌, flat_map, Some, None, IsSome, IfSome, IfErr, OnOk, IfOk, Err, IsErrOf, replicate, string_bytes, if◌then◌else◌};
 ghost use Rattle.szg_io.specs.Device.{HasFailed};
 ghost use Rattle.szg_io.specs.Moved.{Gives};
 ghost use Rattle.szg_file.specs.Values.{subtable_at};
@@ -35,36 +35,25 @@ pub fn check_index(table: &Table, request: &Request, index: u64) -> Result<(), R
     }
 }
 
-/// The line of the value at an index.
+/// The line of the value at an index, with the steps by which it is found if they are asked for.
 pub(crate) fn get_answer(
     alloc: Global,
     table: &Table,
     request: &Request,
     index: u64,
+    has_steps: bool,
 ) -> Result<String, Stop>
-    ensures stated { IfOk result (λ line. IsAnswer (Action.Get index) request.now.part request.now.side table.now (string_bytes line)) }
-    ensures refused { (refusal : Refusal) → IsErrOf result (Stop.Refused refusal) → IsRefused (Action.Get index) request.now.part request.now.side table.now.contents refusal }
+    ensures stated { IfOk result (λ line. IsAnswer (if has_steps then Action.GetCounted index else Action.Get index) request.now.part request.now.side table.now (string_bytes line)) }
+    ensures refused { (refusal : Refusal) → IsErrOf result (Stop.Refused refusal) → index_refusal (size_at table.now.contents request.now.part request.now.side) index ≡ Some refusal }
     ensures device { IsErrOf result Stop.Device → ⊥ }
 {
     check_index(table, request, index)?;
+    if has_steps {
+        let (value, steps) = table.get_counted(request.part, request.side, index);
+        return Ok(counted_line(alloc, value, steps)?);
+    }
     let value = table.get(request.part, request.side, index);
     Ok(format!(in alloc; "{value}\n")?)
-}
-
-/// The line of the value at an index, and of the steps by which it is found.
-pub(crate) fn counted_answer(
-    alloc: Global,
-    table: &Table,
-    request: &Request,
-    index: u64,
-) -> Result<String, Stop>
-    ensures stated { IfOk result (λ line. IsAnswer (Action.GetCounted index) request.now.part request.now.side table.now (string_bytes line)) }
-    ensures refused { (refusal : Refusal) → IsErrOf result (Stop.Refused refusal) → IsRefused (Action.GetCounted index) request.now.part request.now.side table.now.contents refusal }
-    ensures device { IsErrOf result Stop.Device → ⊥ }
-{
-    check_index(table, request, index)?;
-    let (value, steps) = table.get_counted(request.part, request.side, index);
-    Ok(counted_line(alloc, value, steps)?)
 }
 
 /// A line of a value and the steps to it.
