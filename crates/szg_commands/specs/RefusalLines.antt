@@ -68,10 +68,6 @@ worded_line what word = codes "refused " ++ (what ++ (codes ": " ++ (word ++ 10 
 abbrev pub numbered_line : List ℕ → ℕ → List ℕ → List ℕ
 numbered_line what number word = codes "refused " ++ (what ++ (32 ∷ [] ++ (decimal number ++ (codes ": " ++ (word ++ 10 ∷ [])))))
 
--- a block that doesn't decode: its number, and its offset
-abbrev pub block_line : ℕ → ℕ → List ℕ
-block_line number offset = codes "refused block " ++ (decimal number ++ (codes " at " ++ (decimal offset ++ 10 ∷ [])))
-
 abbrev pub refusal_line : Refusal → List ℕ
 refusal_line (why.Name fault) = worded_line (codes "name") (name_word fault)
 refusal_line why.Man = codes "refused man\n"
@@ -81,6 +77,6 @@ refusal_line (why.Line line fault) = numbered_line (codes "line") line (dump_wor
 refusal_line (why.Build fault) = worded_line (codes "build") (build_word fault)
 refusal_line why.Part = codes "refused part\n"
 refusal_line why.Index = codes "refused index\n"
-refusal_line (why.Block number offset) = block_line number offset
+refusal_line (why.Block number offset) = codes "refused block " ++ (decimal number ++ (codes " at " ++ (decimal offset ++ 10 ∷ [])))
 refusal_line (why.Place fault) = worded_line (codes "place") (place_word fault)
 refusal_line (why.Map fault) = worded_line (codes "map") (map_word fault)

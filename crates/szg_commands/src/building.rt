@@ -72,18 +72,7 @@ fn table_of<V: Watcher>(alloc: Global, packed: PackedDump, watcher: &mut V) -> R
 {
     match packed.build(alloc, watcher) {
         Ok(table) => Ok(table),
-        Err(fault) => Err(stop_of(fault)),
-    }
-}
-
-/// Why the command isn't carried out where no table was built.
-fn stop_of(fault: BuildFault) -> Stop
-    ensures refused { (refusal : Refusal) → result ≡ Stop.Refused refusal → (refusal ≡ Refusal.Build fault) × (fault ≡ BuildFault.Memory → ⊥) }
-    ensures only { result ≡ Stop.Device → ⊥ }
-    ensures memory { result ≡ Stop.Memory → fault ≡ BuildFault.Memory }
-{
-    match fault {
-        BuildFault::Memory => Stop::Memory,
-        fault => Stop::Refused(Refusal::Build(fault)),
+        Err(BuildFault::Memory) => Err(Stop::Memory),
+        Err(fault) => Err(Stop::Refused(Refusal::Build(fault))),
     }
 }

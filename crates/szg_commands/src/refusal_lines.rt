@@ -1,6 +1,6 @@
 //! The line of a refusal.
 ghost use Rattle.std.specs.Prelude.{◌≡◌, IfOk, string_bytes};
-ghost use Rattle.szg_commands.specs.RefusalLines.{block_line, numbered_line, refusal_line, refusal_word, worded_line};
+ghost use Rattle.szg_commands.specs.RefusalLines.{numbered_line, refusal_line, refusal_word, worded_line};
 
 use crate::refusal::Refusal;
 use std::alloc::{AllocError, Global};
@@ -24,7 +24,9 @@ pub fn refusal_line(alloc: Global, refusal: Refusal) -> Result<String, AllocErro
         Refusal::Build(_) => worded_line(alloc, "build", word),
         Refusal::Part => String::from_str(alloc, "refused part\n"),
         Refusal::Index => String::from_str(alloc, "refused index\n"),
-        Refusal::Block(number, offset) => block_line(alloc, number, offset),
+        Refusal::Block(number, offset) => {
+            format!(in alloc; "refused block {number} at {offset}\n")
+        }
         Refusal::Place(_) => worded_line(alloc, "place", word),
         Refusal::Map(_) => worded_line(alloc, "map", word),
     }
@@ -42,13 +44,6 @@ fn numbered_line(alloc: Global, what: &str, number: u64, word: &str) -> Result<S
     ensures { IfOk result (λ line. string_bytes line ≡ numbered_line what.now number word.now) }
 {
     format!(in alloc; "refused {what} {number}: {word}\n")
-}
-
-/// A block's line: its number and its offset in the file.
-fn block_line(alloc: Global, number: u32, offset: u64) -> Result<String, AllocError>
-    ensures { IfOk result (λ line. string_bytes line ≡ block_line number offset) }
-{
-    format!(in alloc; "refused block {number} at {offset}\n")
 }
 
 /// Why something is refused, in a word; none where the line says all.

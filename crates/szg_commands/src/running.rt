@@ -153,16 +153,6 @@ impl<'a, 'b, W: Write, E: Eprint, C: Clock> Write for Above<'a, 'b, W, E, C> {
     }
 }
 
-/// The number of bytes of the output that are written at once. Each line of a check or a copy is written when its file was checked,
-/// so that a run that is cut off leaves whole lines.
-fn buffer_for(texts: &[&str], is_copies: bool) -> usize {
-    if is_copies || texts.get(1) == Some(&"check") {
-        0
-    } else {
-        1 << 13
-    }
-}
-
 /// Runs the words on a machine's files, on an input and an output; also whether the reader of the output closed it.
 /// Nothing that follows a table or a dump is taken from the input.
 fn run_on_streams<'a, D: Files + Clock>(
@@ -180,7 +170,11 @@ where
     let Ok(copies) = copies_of(alloc, texts) else {
         return (Ending::Memory, false);
     };
-    let buffer = buffer_for(texts, copies.is_some());
+    // each line of a check or a copy is written when its file was checked, so that a run that is cut off leaves whole lines
+    let buffer = match copies {
+        None if texts.get(1) != Some(&"check") => 1 << 13,
+        _ => 0,
+    };
     let Ok(mut writer) = BufWriter::with_capacity(alloc, buffer, Monitored::new(output)) else {
         return (Ending::Memory, false);
     };
