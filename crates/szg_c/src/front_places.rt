@@ -65,7 +65,7 @@ pub extern "C" fn szg_front_number(
     )
 }
 
-pub fn number_in(index: &TableIndex, part: u8, class: i8, value: u16) -> Result<u32, u32>
+pub(crate) fn number_in(index: &TableIndex, part: u8, class: i8, value: u16) -> Result<u32, u32>
     ensures { result ≡ number_result index.now part class value }
 {
     if index.kind() != Kind::Dtz || !is_class(class) || index.size(part, 0).is_none() {

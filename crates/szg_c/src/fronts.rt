@@ -168,7 +168,7 @@ pub extern "C" fn szg_front_span(alloc: Global, front: &mut HeldFront, bits: &mu
 }
 
 /// Whether a table has this index.
-pub fn has_index(table: &TableIndex, part: u8, side: u8, index: u64) -> bool
+pub(crate) fn has_index(table: &TableIndex, part: u8, side: u8, index: u64) -> bool
     ensures { result ≡ is_some (with_slot (slot_in table.now part side) index) }
 {
     match table.size(part, side) {
@@ -178,7 +178,7 @@ pub fn has_index(table: &TableIndex, part: u8, side: u8, index: u64) -> bool
 }
 
 /// The status of a fault of a fetch; a bad block is written to `bad`.
-pub fn fetch_status(fault: FetchFault, bad: &mut BadBlock) -> u32
+pub(crate) fn fetch_status(fault: FetchFault, bad: &mut BadBlock) -> u32
     ensures { FetchReported fault bad.old bad.new result }
 {
     match fault {

@@ -54,7 +54,7 @@ pub fn put<H: Handle>(handle: &mut H, owned: Box<H::Held>)
 }
 
 /// Returns what a function finds in what a handle owns. Errors: `CLOSED` if that is nothing; else the function's status.
-pub fn find<H: Handle, R, F: FnOnce(&H::Held) -> Result<R, u32>>(
+pub(crate) fn find<H: Handle, R, F: FnOnce(&H::Held) -> Result<R, u32>>(
     alloc: Global,
     handle: &mut H,
     function: F,
@@ -72,7 +72,7 @@ pub fn find<H: Handle, R, F: FnOnce(&H::Held) -> Result<R, u32>>(
 }
 
 /// Writes what was found; returns the status.
-pub fn write<T: Drop>(found: Result<T, u32>, to: &mut T) -> u32
+pub(crate) fn write<T: Drop>(found: Result<T, u32>, to: &mut T) -> u32
     ensures { MatchResult found (λ x. (result ≡ DONE) × (to.new ≡ x)) (λ status. (result ≡ status) × (to.new ≡ to.old)) }
 {
     match found {

@@ -137,7 +137,7 @@ pub extern "C" fn szg_positions(
 }
 
 /// Decodes all values of a part's side, if the length of `values` is their number.
-pub fn values_in(table: &Table, part: u8, side: u8, values: &mut [u16]) -> u32
+pub(crate) fn values_in(table: &Table, part: u8, side: u8, values: &mut [u16]) -> u32
     ensures done { (result ≡ 0) → IsSomeAnd (subtable_at table.now.contents part side) (λ found. values.new ≡ values_of table.now.contents.kind found) }
     ensures there { IfSome (subtable_at table.now.contents part side) (λ found. length values.old ≡ found.0.size → result ≡ 0) }
     ensures missing { IsNone (subtable_at table.now.contents part side) → result ≡ 4 }

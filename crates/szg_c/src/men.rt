@@ -26,7 +26,7 @@ pub struct RawMan {
 /// Puts the men on their squares, into an empty list; returns their key. None if there is an error that a single man or two
 /// men show, or the side to move is no number of a colour: then `placement_or_fault` returns it.
 #[inline(always)]
-pub fn key_of_men(
+pub(crate) fn key_of_men(
     men: &[RawMan],
     mover: u8,
     placed_men: &mut ArrayVec<(Man, Color, Square), MAX_MEN>,
@@ -43,7 +43,7 @@ pub fn key_of_men(
 /// Returns the placement of men that `key_of_men` put into a list, without a copy of the list. None if there is an error:
 /// then `placement_or_fault` returns it.
 #[inline(always)]
-pub fn sound_men<'a>(
+pub(crate) fn sound_men<'a>(
     men: &[RawMan],
     mover: u8,
     placed_men: &'a ArrayVec<(Man, Color, Square), MAX_MEN>,
@@ -81,7 +81,7 @@ fn put_men(men: &[RawMan], placed_men: &mut ArrayVec<(Man, Color, Square), MAX_M
 /// first status that applies, of `MAN` for an invalid number, `MEN`, `SAME_SQUARE` and `PAWN_RANK`.
 #[inline(never)]
 #[tactic(auto, unfolding(crate::specs::Men::board_of))]
-pub fn placement_or_fault(men: &[RawMan], mover: u8) -> Result<Placement, u32>
+pub(crate) fn placement_or_fault(men: &[RawMan], mover: u8) -> Result<Placement, u32>
     ensures { result ≡ board_of men.now mover }
 {
     if mover >= 2 {
@@ -100,7 +100,7 @@ pub fn placement_or_fault(men: &[RawMan], mover: u8) -> Result<Placement, u32>
 }
 
 /// Whether each man's numbers encode a kind, a colour and a square.
-pub fn are_coded_men(men: &[RawMan]) -> bool
+pub(crate) fn are_coded_men(men: &[RawMan]) -> bool
     ensures { result ≡ list_all is_coded_man men.now }
 {
     men.iter().all(|man| is_coded_man(man))
@@ -113,7 +113,7 @@ fn is_coded_man(man: &RawMan) -> bool
 }
 
 /// Decodes the men. None if a man's numbers are invalid.
-pub fn placed_men(men: &[RawMan]) -> Option<ArrayVec<(Man, Color, Square), MAX_MEN>>
+pub(crate) fn placed_men(men: &[RawMan]) -> Option<ArrayVec<(Man, Color, Square), MAX_MEN>>
     requires { length men.now ≤ 6 }
     ensures reported { IfSome result (λ placed_men. IsTrue (list_all is_coded_man men.now) × (placed_men.items ≡ map placed_man_of men.now)) }
     ensures unstated { IsNone result → IsFalse (list_all is_coded_man men.now) }
@@ -152,7 +152,7 @@ fn kind_of(kind: u8) -> Man
     }
 }
 
-pub fn color_of(color: u8) -> Color
+pub(crate) fn color_of(color: u8) -> Color
     ensures { result ≡ color_stated color }
 {
     if color == 0 {
@@ -176,7 +176,7 @@ fn placement_status(fault: PlacementFault) -> u32
 /// Writes the men of a placement to the beginning of a list, their number, and the side to move.
 ///
 /// Errors: `RANGE` if there are more men than the list has items. Then all stays.
-pub fn write_placement(
+pub(crate) fn write_placement(
     placement: &Placement,
     men: &mut [RawMan],
     count: &mut usize,
@@ -197,7 +197,7 @@ pub fn write_placement(
 }
 
 /// Returns men as numbers.
-pub fn coded_men(placed: &[(Man, Color, Square)]) -> ArrayVec<RawMan, MAX_MEN>
+pub(crate) fn coded_men(placed: &[(Man, Color, Square)]) -> ArrayVec<RawMan, MAX_MEN>
     requires { length placed.now ≤ 6 }
     ensures { result.items ≡ map coded_man placed.now }
 {
@@ -212,7 +212,7 @@ pub fn coded_men(placed: &[(Man, Color, Square)]) -> ArrayVec<RawMan, MAX_MEN>
     coded
 }
 
-pub fn color_code(color: Color) -> u8
+pub(crate) fn color_code(color: Color) -> u8
     ensures { result ≡ color_number color }
 {
     match color {

@@ -21,14 +21,14 @@ pub struct RawAnswer {
 }
 
 /// Returns the kind for a flag.
-pub fn kind_of(dtz: bool) -> Kind
+pub(crate) fn kind_of(dtz: bool) -> Kind
     ensures { result ≡ kind_of_flag dtz }
 {
     if dtz { Kind::Dtz } else { Kind::Wdl }
 }
 
 /// Returns the material of a name. None if the bytes are not such a name.
-pub fn material_of(name: &[u8]) -> Option<Material>
+pub(crate) fn material_of(name: &[u8]) -> Option<Material>
     ensures { MatchOption result (IsNoName name.now) (λ material. parsed name.now ≡ Ok material) }
 {
     let Ok(text) = str::from_utf8(name) else {
@@ -38,7 +38,7 @@ pub fn material_of(name: &[u8]) -> Option<Material>
 }
 
 /// Returns the status of a fault of bytes in memory, which never fail. Writes the offset and the reason of a refusal.
-pub fn fault_status(fault: ReadFault, answer: &mut RawAnswer) -> u32
+pub(crate) fn fault_status(fault: ReadFault, answer: &mut RawAnswer) -> u32
     requires { fault ≢ Device }
     ensures { IsFaultStatus fault answer.old answer.new result }
 {
@@ -54,7 +54,7 @@ pub fn fault_status(fault: ReadFault, answer: &mut RawAnswer) -> u32
 }
 
 /// Opens the table of this name and kind that the bytes begin with. Errors: the status that says why there is none.
-pub fn open(
+pub(crate) fn open(
     alloc: Global,
     name: &[u8],
     dtz: bool,

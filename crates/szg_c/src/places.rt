@@ -60,7 +60,7 @@ pub extern "C" fn szg_index(
 /// Writes the location of men in a table; returns the status. A `Result` with a `Spot` is matched once, where it is made,
 /// since each one that is passed on is copied.
 #[inline(always)]
-pub fn write_spot(index: &TableIndex, men: &[RawMan], mover: u8, spot: &mut FoundSpot) -> u32
+pub(crate) fn write_spot(index: &TableIndex, men: &[RawMan], mover: u8, spot: &mut FoundSpot) -> u32
     ensures { MatchResult (spot_result index.now (board_of men.now mover)) (λ found. (result ≡ 0) × IsSpot spot.new found) (λ status. (result ≡ status) × (spot.new ≡ spot.old)) }
 {
     let mut placed_men = ArrayVec::new();
@@ -157,7 +157,7 @@ pub enum Unfound<F> {
 
 /// Returns the class of men in a WDL table, their distance in a class in a DTZ table.
 #[inline(always)]
-pub fn outcome_of_men<V: Values + Drop>(
+pub(crate) fn outcome_of_men<V: Values + Drop>(
     values: V,
     men: &[RawMan],
     mover: u8,
@@ -244,13 +244,13 @@ fn fault_or_status<F>(fault: Unprobed<F>) -> Unfound<F>
 }
 
 /// Whether a number is a class, from -2 to 2.
-pub fn is_class(class: i8) -> bool
+pub(crate) fn is_class(class: i8) -> bool
     ensures { result ≡ is_class class }
 {
     !(class < -2 || 2 < class)
 }
 
-pub fn place_status(fault: PlaceFault) -> u32
+pub(crate) fn place_status(fault: PlaceFault) -> u32
     ensures { result ≡ place_fault_status fault }
 {
     match fault {
@@ -261,7 +261,7 @@ pub fn place_status(fault: PlaceFault) -> u32
     }
 }
 
-pub fn map_status(fault: MapFault) -> u32
+pub(crate) fn map_status(fault: MapFault) -> u32
     ensures { result ≡ map_fault_status fault }
 {
     match fault {

@@ -21,7 +21,7 @@ impl<T: Drop> Model for Shared<T> {
 
 impl<T: Drop> Shared<T> {
     /// Creates the first owner of a value.
-    pub fn new(alloc: Global, value: T) -> Result<Shared<T>, AllocError>
+    pub(crate) fn new(alloc: Global, value: T) -> Result<Shared<T>, AllocError>
         ensures { IfOk result (λ shared. shared ≡ value) }
     {
         match Arc::new(alloc, value) {
@@ -31,14 +31,14 @@ impl<T: Drop> Shared<T> {
     }
 
     /// Returns the value.
-    pub fn value(&self) -> &T
+    pub(crate) fn value(&self) -> &T
         ensures { result.now ≡ self.now }
     {
         &self.value
     }
 
     /// Creates another owner.
-    pub fn again(&self) -> Result<Shared<T>, AllocError>
+    pub(crate) fn again(&self) -> Result<Shared<T>, AllocError>
         ensures { IfOk result (λ shared. shared ≡ self.now) }
     {
         let value = Arc::try_clone(&self.value)?;

@@ -56,7 +56,7 @@ pub const CONTRADICTION: u32 = 22;
 pub const NO_RESULT: i8 = 127;
 
 /// Returns the number of a reason.
-pub fn number_of(reason: Reason) -> u32
+pub(crate) fn number_of(reason: Reason) -> u32
     ensures { result ≡ reason_number reason }
 {
     match reason {

@@ -41,7 +41,7 @@ pub extern "C" fn szg_reason_text(reason: u32, text: &mut [u8]) -> usize
 }
 
 /// Writes as much of a name as leaves room for a zero byte, and this byte; returns the length of the whole name.
-pub fn print(name: &str, text: &mut [u8]) -> usize
+pub(crate) fn print(name: &str, text: &mut [u8]) -> usize
     ensures length { result ≡ length name.now }
     ensures text { text.new ≡ printed name.now text.old }
 {

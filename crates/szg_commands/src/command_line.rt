@@ -163,7 +163,7 @@ fn texts_of(name: &str) -> &'static CommandTexts {
 }
 
 /// The program with all its commands.
-pub fn program<'a>(alloc: Global, form: CommandForm) -> Result<Command<'a>, AllocError> {
+pub(crate) fn program<'a>(alloc: Global, form: CommandForm) -> Result<Command<'a>, AllocError> {
     let mut commands = Vec::new(alloc);
     'commands: for name in &COMMANDS {
         commands.push(command_of(alloc, name, form)?)?;
@@ -185,7 +185,7 @@ fn described<'a>(alloc: Global) -> Result<Command<'a>, AllocError> {
 }
 
 /// A command with its arguments.
-pub fn command_of<'a>(
+pub(crate) fn command_of<'a>(
     alloc: Global,
     name: &'a str,
     form: CommandForm,

@@ -22,7 +22,7 @@ struct Described<'a> {
 }
 
 /// What `show` prints of a table: all that it holds but its values, a line each.
-pub fn table_description(alloc: Global, table: &Table) -> Result<String, AllocError>
+pub(crate) fn table_description(alloc: Global, table: &Table) -> Result<String, AllocError>
     ensures { IfOk result (λ text. (rest : List ℕ) × (string_bytes text ≡ front_lines table.now.contents.material table.now.contents.kind (length (file_bytes table.now)) ++ rest)) }
 {
     let front = front_lines(alloc, table.material(), table.kind(), file_len(table))?;
@@ -37,7 +37,7 @@ pub fn table_description(alloc: Global, table: &Table) -> Result<String, AllocEr
 }
 
 /// What `show` prints of a table that was opened by its front; `last` are the last bytes of its file.
-pub fn front_description(
+pub(crate) fn front_description(
     alloc: Global,
     table: &FrontTable,
     last: &[u8],

@@ -19,7 +19,7 @@ use szg_file::Table;
 use szg_io::Output;
 
 /// Whether the table has the index: `Part` where there is no such part or side, `Index` where it has fewer positions.
-pub fn check_index(table: &Table, request: &Request, index: u64) -> Result<(), Refusal>
+pub(crate) fn check_index(table: &Table, request: &Request, index: u64) -> Result<(), Refusal>
     ensures there { OnOk result (IsSome (subtable_at table.now.contents request.now.part request.now.side)) }
     ensures below { OnOk result (IfSome (subtable_at table.now.contents request.now.part request.now.side) (λ found. index < found.0.size)) }
     ensures passed { OnOk result (index_refusal (size_at table.now.contents request.now.part request.now.side) index ≡ None) }

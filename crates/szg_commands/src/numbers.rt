@@ -10,10 +10,7 @@ use crate::request::WordsFault;
 use clap::ArgMatches;
 
 /// Parses the number of an argument's word. Errors: the word, if it isn't one of the argument's numbers.
-pub fn number_of<'a>(
-    chosen: &ArgMatches<'a>,
-    argument: Argument,
-) -> Result<u64, WordsFault<'a>>
+pub fn number_of<'a>(chosen: &ArgMatches<'a>, argument: Argument) -> Result<u64, WordsFault<'a>>
     ensures stated { IfOk result (λ n. number_from argument.least argument.greatest (word_of (found_of chosen.now) argument.id.now) ≡ Some n) }
     ensures within { IfOk result (λ n. (argument.least ≤ n) × (n ≤ argument.greatest)) }
     ensures refused { IfErr result (λ fault. number_from argument.least argument.greatest (word_of (found_of chosen.now) argument.id.now) ≡ None) }

@@ -45,7 +45,7 @@ pub struct FileFailure<'a> {
 pub(crate) type FileStop<'a> = Stop<FileFailure<'a>>;
 
 /// Why a file stops a task.
-pub fn failed(path: &str, fault: FileFault) -> FileStop<'_>
+pub(crate) fn failed(path: &str, fault: FileFault) -> FileStop<'_>
     ensures refused { (refusal : Refusal) → (result ≡ Stop.Refused refusal) → ⊥ }
     ensures memory { (result ≡ Stop.Memory) → fault ≡ FileFault.Memory }
 {

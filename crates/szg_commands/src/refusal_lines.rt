@@ -11,7 +11,7 @@ use szg_place::PlaceFault;
 use szg_values::PlacementFault;
 
 /// Returns the line of a refusal.
-pub fn refusal_line(alloc: Global, refusal: Refusal) -> Result<String, AllocError>
+pub(crate) fn refusal_line(alloc: Global, refusal: Refusal) -> Result<String, AllocError>
     ensures { IfOk result (λ line. string_bytes line ≡ refusal_line refusal) }
 {
     let word = refusal_word(refusal);

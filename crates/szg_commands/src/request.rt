@@ -31,7 +31,7 @@ pub enum AskedClass {
 
 impl AskedClass {
     /// The class's number: 2 for a win, 1 for a cursed win, 0, -1 and -2.
-    pub fn number(self) -> i8
+    pub(crate) fn number(self) -> i8
         ensures { result ≡ number_of_class self }
     {
         match self {
@@ -55,7 +55,7 @@ pub enum DumpForm {
 
 impl DumpForm {
     /// The form's number in a dump's first line: 1 or 2.
-    pub fn number(self) -> u8
+    pub(crate) fn number(self) -> u8
         ensures number { result ≡ number_of_form self }
         ensures known { (result ≡ 1) ⊎ (result ≡ 2) }
     {

@@ -71,7 +71,7 @@ pub(crate) fn run_results(
 }
 
 /// Returns the outcome of a command that wrote its lines and says whether nothing was refused, or that failed.
-pub fn outcome_of(written: io::Result<bool>) -> Outcome {
+pub(crate) fn outcome_of(written: io::Result<bool>) -> Outcome {
     match written {
         Ok(true) => Outcome::Done,
         Ok(false) => Outcome::Refused,

@@ -9,7 +9,7 @@ use crate::refusal::Stop;
 use szg_io::{Output, give_whole};
 
 /// Writes a text whole.
-pub fn say<W: Output>(writer: &mut W, text: &[u8]) -> Result<(), Stop>
+pub(crate) fn say<W: Output>(writer: &mut W, text: &[u8]) -> Result<(), Stop>
     ensures given { OnOk result (Gives W.Output writer.old writer.new text.now 0) }
     ensures failed { OnErr result (HasFailed (W.failures writer.old) (W.failures writer.new) (W.interrupted writer.new)) }
     ensures device { OnErr result (result ≡ Err Stop.Device) }

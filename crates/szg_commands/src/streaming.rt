@@ -55,7 +55,11 @@ fn say_chunk<W: Output>(writer: &mut W, text: &mut Vec<u8>) -> Result<(), Stop>
 }
 
 /// Adds each value on a line to the text that is held, and writes it in large chunks.
-pub fn add_lines<W: Output>(text: &mut Vec<u8>, values: &[u16], writer: &mut W) -> Result<(), Stop>
+pub(crate) fn add_lines<W: Output>(
+    text: &mut Vec<u8>,
+    values: &[u16],
+    writer: &mut W,
+) -> Result<(), Stop>
     ensures given { OnOk result ((out : List ℕ) × Gives W.Output writer.old writer.new out 0 × (out ++ text.new.items ≡ text.old.items ++ flat_map number_line values.now)) }
     ensures device { IsErrOf result Stop.Device → HasFailed (W.failures writer.old) (W.failures writer.new) (W.interrupted writer.new) }
     ensures only { (refusal : Refusal) → IsErrOf result (Stop.Refused refusal) → ⊥ }
@@ -71,7 +75,7 @@ pub fn add_lines<W: Output>(text: &mut Vec<u8>, values: &[u16], writer: &mut W) 
 }
 
 /// Adds a value `count` times, each time on a line, to the text that is held, and writes it in large chunks.
-pub fn add_same<W: Output>(
+pub(crate) fn add_same<W: Output>(
     text: &mut Vec<u8>,
     value: u16,
     count: u64,
@@ -140,7 +144,7 @@ impl<W: Output> ValueSink<W> for LineSink {
 // ---- a file
 
 /// Whether a task lists a table's values, as they are or as a dump.
-pub fn lists_values(task: &Task) -> bool
+pub(crate) fn lists_values(task: &Task) -> bool
     ensures { (result ≡ true) → ListsValues task.now }
 {
     match task {

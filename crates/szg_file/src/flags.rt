@@ -7,7 +7,7 @@ ghost use Rattle.szg_file.specs.Held.{subtable_of};
 use szg_block::Sub;
 
 /// Returns the flag byte of a subtable.
-pub fn flags_of(sub: &Sub) -> u8
+pub(crate) fn flags_of(sub: &Sub) -> u8
     ensures { result ≡ flags_byte (subtable_of sub.now) }
 {
     match sub {

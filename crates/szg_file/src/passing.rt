@@ -110,7 +110,7 @@ fn is_each_map_valid(subs: &[Sub], maps: &[Option<Map>]) -> bool
 }
 
 /// Returns whether the maps are those that the kind and the flags require.
-pub fn are_maps_valid(kind: Kind, subs: &[Sub], maps: &[Option<Map>]) -> bool
+pub(crate) fn are_maps_valid(kind: Kind, subs: &[Sub], maps: &[Option<Map>]) -> bool
     ensures { IsTrue result ↔ AreMaps kind (map subtable_of subs.now) (map (option_map map_of) maps.now) }
 {
     match kind {

@@ -21,10 +21,7 @@ pub use check_paths::files_to_check;
 pub use due::{Due, due_of};
 pub use entries::{PathToCheck, entries_at, kind_at};
 pub use file_verdict::{FileVerdict, Skip, SumFault};
-pub use lines::{
-    error_text, escaped_path, fault_text, name_word, reason_word, sum_word, summary_line,
-    verdict_line,
-};
+pub use lines::{escaped_path, fault_text, name_word, reason_word, summary_line, verdict_line};
 pub use lists::{FromLines, ListFailure, read_lists};
 pub use log::{FileState, Log};
 pub use many::{CheckOptions, CheckReport, check_entries, check_files, check_found};

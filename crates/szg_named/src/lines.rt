@@ -185,7 +185,7 @@ pub(crate) fn skip_reason(skip: Skip) -> &'static str
 }
 
 /// Returns the word for what lists of sums say against a file: the name of its variant.
-pub fn sum_word(fault: SumFault) -> &'static str
+pub(crate) fn sum_word(fault: SumFault) -> &'static str
     ensures { result.now ≡ sum_word fault }
 {
     match fault {
@@ -236,7 +236,7 @@ pub fn fault_text(alloc: Global, fault: &FileFault) -> Result<String, AllocError
 }
 
 /// Returns the system's reason, without its number.
-pub fn error_text(alloc: Global, error: &Option<Error>) -> Result<String, AllocError> {
+pub(crate) fn error_text(alloc: Global, error: &Option<Error>) -> Result<String, AllocError> {
     let Some(error) = error else {
         return String::from_str(alloc, "device fault");
     };

@@ -39,7 +39,7 @@ pub(crate) fn is_wrong_side(
 
 /// Returns the side to move whose values a DTZ table stores for a part: the lowest bit of the part's flags; 0 if it has
 /// none.
-pub fn stored_side(flags: &[u8], part: u8) -> u8
+pub(crate) fn stored_side(flags: &[u8], part: u8) -> u8
     ensures { result ≡ slice_index flags.now part % 2 }
 {
     let part = usize::from(part);

@@ -68,7 +68,7 @@ fn read_sub<R: Input>(
     Ok(sub)
 }
 
-pub fn is_constant(sub: &Sub) -> bool
+pub(crate) fn is_constant(sub: &Sub) -> bool
     ensures { IsTrue result ↔ (layout_of sub.now ≡ None) }
 {
     match sub {

@@ -206,7 +206,7 @@ pub(crate) fn push_slots(slots: &mut ArrayVec<Slot, 8>, part: u8, sizes: SideSiz
 }
 
 /// Reads the parts.
-pub fn read_parts<R: Input>(
+pub(crate) fn read_parts<R: Input>(
     alloc: Global,
     material: &Material,
     kind: Kind,

@@ -13,7 +13,7 @@ use szg_io::Input;
 use szg_values::{Kind, Material};
 
 /// Returns the first four bytes of a file of a kind.
-pub fn magic(kind: Kind) -> [u8; 4]
+pub(crate) fn magic(kind: Kind) -> [u8; 4]
     ensures { result ≡ magic_of kind }
 {
     match kind {

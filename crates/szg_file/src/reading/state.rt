@@ -53,7 +53,11 @@ pub fn grow<T>(list: &mut Vec<T>, more: usize, state: &mut ReaderState) -> Resul
 }
 
 /// Appends an item.
-pub fn append<T: Drop>(list: &mut Vec<T>, item: T, state: &mut ReaderState) -> Result<(), ReadFault>
+pub(crate) fn append<T: Drop>(
+    list: &mut Vec<T>,
+    item: T,
+    state: &mut ReaderState,
+) -> Result<(), ReadFault>
     requires growth_bound { state.old.growth ≤ 2 * state.old.place + 2 ^ 15 }
     requires place { state.old.place < 2 ^ 62 }
     ensures items { OnOk result (list.new.items ≡ list.old.items ++ item ∷ []) }

@@ -56,7 +56,10 @@ pub(crate) fn read_byte<R: Input>(input: &mut R, state: &mut ReaderState) -> Res
 }
 
 /// Reads a two-byte number.
-pub fn read_number<R: Input>(input: &mut R, state: &mut ReaderState) -> Result<u16, ReadFault>
+pub(crate) fn read_number<R: Input>(
+    input: &mut R,
+    state: &mut ReaderState,
+) -> Result<u16, ReadFault>
     requires { state.old.place < 2 ^ 62 }
     ensures number { Reading (number_field 2) (λ number. number) state.old state.new R.Input input.old input.new result }
     ensures place { OnOk result (state.new.place ≡ state.old.place + 2) }

@@ -56,7 +56,7 @@ fn give<W: Output>(chunk: &[u8], output: &mut W, out: u64) -> Result<u64, WriteF
 }
 
 /// Writes the buffered bytes.
-pub fn flush<W: Output>(output: &mut W, outgoing: &mut Outgoing) -> Result<(), WriteFault>
+pub(crate) fn flush<W: Output>(output: &mut W, outgoing: &mut Outgoing) -> Result<(), WriteFault>
     ensures none { Writing [] outgoing.old outgoing.new W.Output output.old output.new result }
     ensures held { OnOk result (outgoing.new.held.items ≡ []) }
 {

@@ -19,7 +19,7 @@ pub struct Tally {
 
 impl Tally {
     /// Counts the bytes of a table's file, and the padding bytes among them.
-    pub fn of(fields: &FieldsRef) -> Tally
+    pub(crate) fn of(fields: &FieldsRef) -> Tally
         ensures place { IsAlike result.place (end_of 0 (sections (contents_in fields.now))) }
         ensures fill { IsAlike result.fill (fill_from 0 (sections (contents_in fields.now))) }
     {
