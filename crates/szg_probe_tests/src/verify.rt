@@ -34,35 +34,37 @@ fn verified(rt: &impl Abort, tables: &[Table], name: &str) -> Result<Walked, Ver
     verify_tables(tables, &materials, &mut cells, &mut Blind)
 }
 
-/// Keeps the numbers and the positions that it sees, ten times at most, and counts what it sees.
+/// Keeps what it sees, ten times at most, and counts: whether the material is that of king and bishop against king, the numbers
+/// that were checked, the range's end and the positions.
 #[derive(Drop)]
 struct Seen {
-    progress: [(u64, u64); 10],
+    progress: [(bool, u64, u64, u64); 10],
     count: usize,
 }
 
 impl Watcher for Seen {
-    fn see_progress(&mut self, _material: &Material, done: u64, _to: u64, positions: u64) {
+    fn see_progress(&mut self, material: &Material, done: u64, to: u64, positions: u64) {
         if self.count < 10 {
-            self.progress[self.count] = (done, positions);
+            let bishop = material.name().as_str() == "KBvK";
+            self.progress[self.count] = (bishop, done, to, positions);
         }
         self.count = self.count.saturating_add(1);
     }
 }
 
-/// The numbers that were checked, and the positions among them, of a king and a knight and of a king and a bishop against a
-/// king.
-const PROGRESS: [(u64, u64); 10] = [
-    (0, 0),
-    (65_536, 24_168),
-    (131_072, 47_830),
-    (196_608, 76_640),
-    (262_144, 107_360),
-    (0, 0),
-    (65_536, 23_435),
-    (131_072, 46_432),
-    (196_608, 74_497),
-    (262_144, 104_307),
+/// The numbers that were checked, of all, and the positions among them, of a king and a knight and of a king and a bishop against
+/// a king.
+const PROGRESS: [(bool, u64, u64, u64); 10] = [
+    (false, 0, 262_144, 0),
+    (false, 65_536, 262_144, 24_168),
+    (false, 131_072, 262_144, 47_830),
+    (false, 196_608, 262_144, 76_640),
+    (false, 262_144, 262_144, 107_360),
+    (true, 0, 262_144, 0),
+    (true, 65_536, 262_144, 23_435),
+    (true, 131_072, 262_144, 46_432),
+    (true, 196_608, 262_144, 74_497),
+    (true, 262_144, 262_144, 104_307),
 ];
 
 // Neither a knight nor a bishop can win. Another program counted the positions: White's king on a1 to d4, each side to
@@ -76,7 +78,7 @@ fn drawn_materials_pass(rt: HostRuntime) {
         table(&rt, kbvk_wdl_constant(rt.alloc())),
     ];
     let mut seen = Seen {
-        progress: [(0, 0); 10],
+        progress: [(false, 0, 0, 0); 10],
         count: 0,
     };
     let mut cells = [Cell::default(); 1024];
