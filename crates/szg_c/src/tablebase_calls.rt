@@ -1,6 +1,6 @@
 //! Calls on a tablebase: tables are added by their bytes, and positions are probed with their captures, the right to
 //! capture en passant and the fifty-move counter.
-ghost use Rattle.std.specs.Prelude.{◌≡◌, ◌≤◌, ◌⊎◌, Err, IfErr, IfNone, IfOk, IfSome, MatchResult, Ok, length, map};
+ghost use Rattle.std.specs.Prelude.{◌≡◌, ◌≤◌, ◌⊎◌, ◌++◌, Err, IfErr, IfNone, IfOk, IfSome, MatchResult, Ok, drop, length, map};
 ghost use Rattle.std.specs.declared.option.Option.TheVariants.{None, Some};
 ghost use Rattle.szg_file.specs.Unread.{unread_file};
 ghost use Rattle.szg_c.specs.Reported.{Stops};
@@ -18,7 +18,7 @@ use crate::status::{
 use crate::texts::print;
 use arrayvec::ArrayVec;
 use std::alloc::Global;
-use szg_chess::{MAX_MOVES, Position, PositionFault};
+use szg_chess::{Position, PositionFault};
 use szg_probe::{DistanceFault, RankedMove, probe_dtz, probe_wdl, rank_moves};
 use szg_tables::{MappedSet, MappedTable, Missing, MissingReason, number_of_class};
 use szg_values::{Kind, MAX_MEN, Man, Square};
@@ -392,16 +392,14 @@ fn promotion_code(promotion: Option<Man>) -> u8
     }
 }
 
-/// Returns moves as numbers.
-fn raw_moves(ranked: &[RankedMove]) -> ArrayVec<RawMove, MAX_MOVES>
-    requires { length ranked.now ≤ 128 }
-    ensures { result.items ≡ map raw_move ranked.now }
+/// Writes moves as numbers to the beginning of a list.
+fn write_moves(ranked: &[RankedMove], moves: &mut [RawMove])
+    requires { length ranked.now ≤ length moves.old }
+    ensures { moves.new ≡ map raw_move ranked.now ++ drop (length ranked.now) moves.old }
 {
-    let mut raw = ArrayVec::new();
-    for m in ranked {
-        raw.push(raw_move(m));
+    for i in 0..ranked.len() {
+        moves[i] = raw_move(&ranked[i]);
     }
-    raw
 }
 
 /// Writes the moves of a position to the beginning of a list, the best first, by a set of tables; returns the status.
@@ -425,9 +423,8 @@ fn moves_in(
     if moves.len() < ranked.len() {
         return RANGE;
     }
-    let raw = raw_moves(ranked.as_slice());
-    moves[..raw.len()].copy_from_slice(raw.as_slice());
-    *count = raw.len();
+    write_moves(ranked.as_slice(), moves);
+    *count = ranked.len();
     DONE
 }
 
