@@ -1,9 +1,6 @@
 -- The men of a board, square by square.
-use Rattle.std.proofs.Common.{◌≡◌, ◌∙◌, ◌<◌, ◌≤◌, ◌+◌, ◌-◌, ◌^◌, ◌++◌, ◌∷◌, [], ℕ, List, zero, suc, true, false, ap, refl, arith, length, length-append, w64}
-use Rattle.std.specs.Prelude.{◌==◌, ◌/◌, flat_map, if◌then◌else◌}
-use Rattle.std.specs.Int.{bit_at, trailing_zeros}
-use Rattle.std.proofs.Math.Nat.{div-le_self, lt_of_le_of_lt}
-use Rattle.std.proofs.lemmas.Nat.Bits.{bit_at-trailing_zeros}
+use Rattle.std.proofs.Common.{◌≡◌, ◌∙◌, ◌<◌, ◌≤◌, ◌+◌, ◌-◌, ◌++◌, ◌∷◌, [], ℕ, List, zero, suc, true, false, ap, refl, arith, length, length-append}
+use Rattle.std.specs.Prelude.{flat_map, if◌then◌else◌}
 use Rattle.std.specs.List.{range_with_len}
 use Rattle.std.proofs.lemmas.List.{append-nil}
 use Rattle.std.proofs.lemmas.List.Concat.{flat_map-append}
@@ -11,7 +8,6 @@ use Rattle.szg_chess.specs.Moves.{all_squares}
 use Rattle.szg_chess.specs.Squares.{is_in}
 use Rattle.szg_chess.proofs.Squares.{all_is}
 use Rattle.szg_chess.proofs.Pushing.{range_more, range_split}
-use Rattle.szg_chess.proofs.Sets.{shifted}
 use Rattle.szg_c.specs.declared.boards.RawBoard.{RawBoard}
 use Rattle.szg_c.specs.declared.men.RawMan.{RawMan}
 use Rattle.szg_c.specs.Boards.{man_on}

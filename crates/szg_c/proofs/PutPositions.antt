@@ -1,5 +1,5 @@
 -- Men that were put on their squares, as a position.
-use Rattle.std.proofs.Common.{rules, ◌≡◌, ◌∙◌, ◌<◌, ◌≤◌, ℕ, List, Bool, true, false, Option, None, Some, refl, sym, ap, map, inl, inr}
+use Rattle.std.proofs.Common.{rules, ◌≡◌, ◌∙◌, ◌<◌, ◌≤◌, ℕ, List, true, Option, None, Some, refl, sym, ap, map, inl, inr}
 use Rattle.std.specs.Prelude.{Result, Ok, Err, nat_lt, IfSome, IsNone}
 use Rattle.std.specs.List.{list_all}
 use Rattle.std.proofs.lemmas.Bool.{cases_Bool, ltb-true, ltb-false}

@@ -13,6 +13,7 @@ use crate::held_front::HeldFront;
 use crate::status::{BAD_BLOCK, CHANGED, CLOSED, DONE, RANGE};
 use std::alloc::Global;
 use szg_file::{ByteRange, FrontTable};
+use szg_place::Spot;
 
 /// A byte range of a file.
 #[repr(C)]
@@ -41,16 +42,16 @@ fn raw_range(found: Option<ByteRange>) -> RawByteRange
 }
 
 /// Finds the byte range that a value needs, if the table has its index.
-fn find_in(table: &FrontTable, part: u8, side: u8, index: u64, range: &mut RawByteRange) -> u32
-    ensures statuses { MatchOption (with_slot (slot_in table.now.index part side) index) (result ≡ RANGE) (λ slot. result ≡ DONE) }
-    ensures found { (content : List ℕ) → IsFrontOf table.now content → IfSome (with_slot (slot_in table.now.index part side) index) (λ slot. IsFoundRange table.now content part side index range.new) }
+fn find_in(table: &FrontTable, spot: Spot, range: &mut RawByteRange) -> u32
+    ensures statuses { MatchOption (with_slot (slot_in table.now.index spot.part spot.side) spot.index) (result ≡ RANGE) (λ slot. result ≡ DONE) }
+    ensures found { (content : List ℕ) → IsFrontOf table.now content → IfSome (with_slot (slot_in table.now.index spot.part spot.side) spot.index) (λ slot. IsFoundRange table.now content spot.part spot.side spot.index range.new) }
     ensures inside { (result ≡ DONE) → range.new.offset + range.new.count ≤ table.now.length }
     ensures stays { (result ≡ DONE → ⊥) → range.new ≡ range.old }
 {
-    if !has_index(table.index(), part, side, index) {
+    if !has_index(table.index(), spot) {
         return RANGE;
     }
-    *range = raw_range(table.locate(part, side, index).range());
+    *range = raw_range(table.locate(spot.part, spot.side, spot.index).range());
     DONE
 }
 
@@ -78,7 +79,8 @@ pub extern "C" fn szg_front_find(
     let Some(held) = take(front, alloc) else {
         return CLOSED;
     };
-    let status = find_in(held.value(), part, side, index, range);
+    let spot = Spot { part, side, index };
+    let status = find_in(held.value(), spot, range);
     put(front, held);
     status
 }
@@ -86,24 +88,22 @@ pub extern "C" fn szg_front_find(
 /// Decodes a value from `block`, the bytes that it needs, which are verified first.
 fn value_of(
     table: &FrontTable,
-    part: u8,
-    side: u8,
-    index: u64,
+    spot: Spot,
     block: &[u8],
     value: &mut u16,
     bad: &mut BadBlock,
 ) -> u32
-    ensures statuses { MatchOption (with_slot (slot_in table.now.index part side) index) (result ≡ RANGE) (λ slot. (result ≡ DONE) ⊎ (result ≡ CHANGED) ⊎ (result ≡ BAD_BLOCK)) }
-    ensures length { (content : List ℕ) → IsFrontOf table.now content → IfSome (with_slot (slot_in table.now.index part side) index) (λ slot. IsLengthReported table.now content part side index block.now result) }
-    ensures got { (content : List ℕ) → IsFrontOf table.now content → IfSome (with_slot (slot_in table.now.index part side) index) (λ slot. IsBlockOf table.now content part side index block.now → IsGot table.now content part side index result value.new bad.old bad.new) }
-    ensures spelled { (content : List ℕ) → IsFrontOf table.now content → IfSome (with_slot (slot_in table.now.index part side) index) (λ slot. (result ≡ DONE) → IsSpelledIn table.now content part side index block.now value.new) }
+    ensures statuses { MatchOption (with_slot (slot_in table.now.index spot.part spot.side) spot.index) (result ≡ RANGE) (λ slot. (result ≡ DONE) ⊎ (result ≡ CHANGED) ⊎ (result ≡ BAD_BLOCK)) }
+    ensures length { (content : List ℕ) → IsFrontOf table.now content → IfSome (with_slot (slot_in table.now.index spot.part spot.side) spot.index) (λ slot. IsLengthReported table.now content spot.part spot.side spot.index block.now result) }
+    ensures got { (content : List ℕ) → IsFrontOf table.now content → IfSome (with_slot (slot_in table.now.index spot.part spot.side) spot.index) (λ slot. IsBlockOf table.now content spot.part spot.side spot.index block.now → IsGot table.now content spot.part spot.side spot.index result value.new bad.old bad.new) }
+    ensures spelled { (content : List ℕ) → IsFrontOf table.now content → IfSome (with_slot (slot_in table.now.index spot.part spot.side) spot.index) (λ slot. (result ≡ DONE) → IsSpelledIn table.now content spot.part spot.side spot.index block.now value.new) }
     ensures value_stays { (result ≡ DONE → ⊥) → value.new ≡ value.old }
     ensures bad_stays { (result ≡ BAD_BLOCK → ⊥) → bad.new ≡ bad.old }
 {
-    if !has_index(table.index(), part, side, index) {
+    if !has_index(table.index(), spot) {
         return RANGE;
     }
-    match table.locate(part, side, index).decode(block) {
+    match table.locate(spot.part, spot.side, spot.index).decode(block) {
         Ok(found) => {
             *value = found;
             DONE
@@ -138,10 +138,11 @@ pub extern "C" fn szg_front_value(
     ensures value_stays { (result ≡ DONE → ⊥) → value.new ≡ value.old }
     ensures bad_stays { (result ≡ BAD_BLOCK → ⊥) → bad.new ≡ bad.old }
 {
+    let spot = Spot { part, side, index };
     let Some(held) = take(front, alloc) else {
         return CLOSED;
     };
-    let status = value_of(held.value(), part, side, index, block, value, bad);
+    let status = value_of(held.value(), spot, block, value, bad);
     put(front, held);
     status
 }

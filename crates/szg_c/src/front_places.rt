@@ -6,11 +6,11 @@ ghost use Rattle.szg_c.specs.Men.{board_of};
 ghost use Rattle.szg_c.specs.Places.{IsSpot, number_result, spot_result};
 
 use crate::fronts::{BadBlock, fetch_status};
-use crate::handle::{find, put, take, write};
+use crate::handle::{with_held, write};
 use crate::held_front::HeldFront;
 use crate::men::RawMan;
 use crate::places::{FoundSpot, Unfound, is_class, map_status, outcome_of_men, write_spot};
-use crate::status::{CLOSED, DONE, RANGE};
+use crate::status::{DONE, RANGE};
 use std::alloc::Global;
 use szg_file::{FrontTable, TableIndex};
 use szg_place::FrontBytes;
@@ -32,12 +32,8 @@ pub extern "C" fn szg_front_index(
     ensures closed { front.old.value ≡ None → (result ≡ 5) × (spot.new ≡ spot.old) }
     ensures reported { IfSome front.old.value (λ f. MatchResult (spot_result f.index (board_of men.now mover)) (λ found. (result ≡ 0) × IsSpot spot.new found) (λ status. (result ≡ status) × (spot.new ≡ spot.old))) }
 {
-    let Some(held) = take(front, alloc) else {
-        return CLOSED;
-    };
-    let status = write_spot(held.value().index(), men, mover, spot);
-    put(front, held);
-    status
+    let mut look = |held: &FrontTable| write_spot(held.index(), men, mover, spot);
+    with_held(alloc, front, &mut look)
 }
 
 /// The number of a DTZ value of a part in a class (2 win, 1 cursed win, -1 blessed loss, -2 loss).
@@ -57,12 +53,8 @@ pub extern "C" fn szg_front_number(
     ensures closed { front.old.value ≡ None → (result ≡ 5) × (number.new ≡ number.old) }
     ensures reported { IfSome front.old.value (λ f. MatchResult (number_result f.index part class value) (λ n. (result ≡ 0) × (number.new ≡ n)) (λ status. (result ≡ status) × (number.new ≡ number.old))) }
 {
-    write(
-        find(alloc, front, |held| {
-            number_in(held.value().index(), part, class, value)
-        }),
-        number,
-    )
+    let mut look = |held: &FrontTable| write(number_in(held.index(), part, class, value), number);
+    with_held(alloc, front, &mut look)
 }
 
 pub(crate) fn number_in(index: &TableIndex, part: u8, class: i8, value: u16) -> Result<u32, u32>
@@ -99,12 +91,8 @@ pub extern "C" fn szg_front_probe(
     ensures outcome_stays { (result ≡ 0 → ⊥) → outcome.new ≡ outcome.old }
     ensures bad_stays { (result ≡ 18 → ⊥) → bad.new ≡ bad.old }
 {
-    let Some(held) = take(front, alloc) else {
-        return CLOSED;
-    };
-    let status = write_outcome(held.value(), bytes, men, mover, class, outcome, bad);
-    put(front, held);
-    status
+    let mut look = |held: &FrontTable| write_outcome(held, bytes, men, mover, class, outcome, bad);
+    with_held(alloc, front, &mut look)
 }
 
 /// Writes the class or the number of men, out of the file's bytes; returns the status. A bad block is written to `bad`.

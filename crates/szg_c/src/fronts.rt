@@ -8,7 +8,7 @@ ghost use Rattle.szg_c.specs.Fronts.{FetchReported, IsFront, IsGot, ReportsFront
 ghost use Rattle.szg_c.specs.Places.{with_slot};
 ghost use Rattle.szg_c.specs.Reported.{Stops};
 
-use crate::handle::{find, hold, put, share, shut, take, write};
+use crate::handle::{hold, put, share, shut, take, with_held, write};
 use crate::held_front::HeldFront;
 use crate::opening::{RawAnswer, fault_status, kind_of, material_of};
 use crate::shared::Shared;
@@ -17,6 +17,7 @@ use std::alloc::Global;
 use szg_block::Sub;
 use szg_file::{FetchFault, FrontTable, PlacedSub, TableIndex, open_front};
 use szg_io::Bytes;
+use szg_place::Spot;
 
 /// A block that doesn't decode.
 #[repr(C)]
@@ -121,12 +122,8 @@ pub extern "C" fn szg_front_size(
     ensures closed { front.old.value ≡ None → (result ≡ 5) × (size.new ≡ size.old) }
     ensures reported { IfSome front.old.value (λ f. MatchOption (slot_in f.index part side) ((result ≡ 4) × (size.new ≡ size.old)) (λ slot. (result ≡ 0) × (size.new ≡ slot.size))) }
 {
-    write(
-        find(alloc, front, |held| {
-            held.value().index().size(part, side).ok_or(RANGE)
-        }),
-        size,
-    )
+    let mut look = |held: &FrontTable| write(held.index().size(part, side).ok_or(RANGE), size);
+    with_held(alloc, front, &mut look)
 }
 
 /// The span bits of a subtable, 0 of a constant one.
@@ -159,20 +156,16 @@ pub extern "C" fn szg_front_span(alloc: Global, front: &mut HeldFront, bits: &mu
     ensures closed { front.old.value ≡ None → (result ≡ 5) × (bits.new ≡ bits.old) }
     ensures reported { IfSome front.old.value (λ f. (result ≡ 0) × (bits.new ≡ greatest_span_bits f.subs)) }
 {
-    write(
-        find(alloc, front, |held| {
-            Ok(greatest_span_bits(held.value().subs()))
-        }),
-        bits,
-    )
+    let mut look = |held: &FrontTable| write(Ok(greatest_span_bits(held.subs())), bits);
+    with_held(alloc, front, &mut look)
 }
 
-/// Whether a table has this index.
-pub(crate) fn has_index(table: &TableIndex, part: u8, side: u8, index: u64) -> bool
-    ensures { result ≡ is_some (with_slot (slot_in table.now part side) index) }
+/// Whether a table has the index of a spot.
+pub(crate) fn has_index(table: &TableIndex, spot: Spot) -> bool
+    ensures { result ≡ is_some (with_slot (slot_in table.now spot.part spot.side) spot.index) }
 {
-    match table.size(part, side) {
-        Some(size) => index < size,
+    match table.size(spot.part, spot.side) {
+        Some(size) => spot.index < size,
         None => false,
     }
 }
@@ -191,25 +184,23 @@ pub(crate) fn fetch_status(fault: FetchFault, bad: &mut BadBlock) -> u32
     }
 }
 
-/// The value at an index of a part's side, out of the file's bytes.
+/// The value at a spot, out of the file's bytes.
 fn value_in(
     table: &FrontTable,
     bytes: &[u8],
-    part: u8,
-    side: u8,
-    index: u64,
+    spot: Spot,
     value: &mut u16,
     bad: &mut BadBlock,
 ) -> u32
-    ensures statuses { MatchOption (with_slot (slot_in table.now.index part side) index) (result ≡ 4) (λ slot. (result ≡ 0) ⊎ (result ≡ 17) ⊎ (result ≡ 18)) }
-    ensures got { IsFrontOf table.now bytes.now → IfSome (with_slot (slot_in table.now.index part side) index) (λ slot. IsGot table.now bytes.now part side index result value.new bad.old bad.new) }
+    ensures statuses { MatchOption (with_slot (slot_in table.now.index spot.part spot.side) spot.index) (result ≡ 4) (λ slot. (result ≡ 0) ⊎ (result ≡ 17) ⊎ (result ≡ 18)) }
+    ensures got { IsFrontOf table.now bytes.now → IfSome (with_slot (slot_in table.now.index spot.part spot.side) spot.index) (λ slot. IsGot table.now bytes.now spot.part spot.side spot.index result value.new bad.old bad.new) }
     ensures value_stays { (result ≡ 0 → ⊥) → value.new ≡ value.old }
     ensures bad_stays { (result ≡ 18 → ⊥) → bad.new ≡ bad.old }
 {
-    if !has_index(table.index(), part, side, index) {
+    if !has_index(table.index(), spot) {
         return RANGE;
     }
-    match table.get(bytes, part, side, index) {
+    match table.get(bytes, spot.part, spot.side, spot.index) {
         Ok(found) => {
             *value = found;
             DONE
@@ -241,10 +232,11 @@ pub extern "C" fn szg_front_get(
     ensures value_stays { (result ≡ 0 → ⊥) → value.new ≡ value.old }
     ensures bad_stays { (result ≡ 18 → ⊥) → bad.new ≡ bad.old }
 {
+    let spot = Spot { part, side, index };
     let Some(held) = take(front, alloc) else {
         return CLOSED;
     };
-    let status = value_in(held.value(), bytes, part, side, index, value, bad);
+    let status = value_in(held.value(), bytes, spot, value, bad);
     put(front, held);
     status
 }

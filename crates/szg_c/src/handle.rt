@@ -1,10 +1,11 @@
 //! What C holds by a pointer, or nothing.
-ghost use Rattle.std.specs.Prelude.{◌≡◌, ◌⊎◌, Err, IfOk, IfSome, MatchOption, MatchResult};
-ghost use Rattle.std.specs.Fn.{FnOnceReturnsAt};
+ghost use Rattle.std.specs.Prelude.{◌≡◌, ◌⊎◌, IfOk, IfSome, MatchOption, MatchResult};
+ghost use Rattle.std.specs.Fn.{CalledAt};
 ghost use Rattle.std.specs.declared.option.Option.{Option};
 ghost use Rattle.std.specs.declared.option.Option.TheVariants.{None, Some};
 
 use crate::loose::Loose;
+use crate::shared::Shared;
 use crate::status::{CLOSED, DONE, MEMORY};
 use std::alloc::{AllocError, Global};
 use std::mem::replace;
@@ -53,22 +54,24 @@ pub fn put<H: Handle>(handle: &mut H, owned: Box<H::Held>)
     *handle = H::of(Loose::of(owned));
 }
 
-/// Returns what a function finds in what a handle owns. Errors: `CLOSED` if that is nothing; else the function's status.
-pub(crate) fn find<H: Handle, R, F: FnOnce(&H::Held) -> Result<R, u32>>(
+/// Calls a function with what a handle owns a share of; returns its status. `CLOSED` if that is nothing: then the function is
+/// not called.
+#[inline(always)]
+pub(crate) fn with_held<T: Drop, H: Handle<Held = Shared<T>>, F: FnMut(&T) -> u32>(
     alloc: Global,
     handle: &mut H,
-    function: F,
-) -> Result<R, u32>
-    requires { F.IsAlwaysCallable function }
+    function: &mut F,
+) -> u32
+    requires { F.IsAlwaysCallable function.old }
     ensures kept { H.held handle.new ≡ H.held handle.old }
-    ensures found { MatchOption (H.held handle.old) (result ≡ Err CLOSED) (λ owned. FnOnceReturnsAt F.FnOnce function owned result) }
+    ensures status { MatchOption (H.held handle.old) ((result ≡ CLOSED) × (function.new ≡ function.old)) (λ owned. CalledAt F.FnMut function.old owned result function.new) }
 {
     let Some(held) = take(handle, alloc) else {
-        return Err(CLOSED);
+        return CLOSED;
     };
-    let found = function(&held);
+    let status = function(held.value());
     put(handle, held);
-    found
+    status
 }
 
 /// Writes what was found; returns the status.

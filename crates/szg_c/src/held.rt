@@ -7,11 +7,11 @@ ghost use Rattle.szg_c.specs.Places.{number_result};
 ghost use Rattle.szg_c.specs.Reported.{Reports};
 
 use crate::front_places::number_in;
-use crate::handle::{find, hold, put, share, shut, take, write};
+use crate::handle::{hold, share, shut, with_held, write};
 use crate::held_table::HeldTable;
 use crate::opening::{RawAnswer, open};
 use crate::shared::Shared;
-use crate::status::{CLOSED, DONE, MEMORY, RANGE};
+use crate::status::{DONE, MEMORY, RANGE};
 use std::alloc::Global;
 use szg_file::Table;
 
@@ -100,14 +100,8 @@ pub extern "C" fn szg_get(
     ensures statuses { IfSome table.old.value (λ t. (result ≡ 0) ⊎ (result ≡ 4)) }
     ensures stays { (result ≡ 0 → ⊥) → value.new ≡ value.old }
 {
-    write(
-        find(
-            alloc,
-            table,
-            |held| value_in(held.value(), part, side, index),
-        ),
-        value,
-    )
+    let mut look = |held: &Table| write(value_in(held, part, side, index), value);
+    with_held(alloc, table, &mut look)
 }
 
 /// Finds the number of positions of a part's side.
@@ -128,12 +122,8 @@ pub extern "C" fn szg_positions(
     ensures statuses { IfSome table.old.value (λ t. (result ≡ 0) ⊎ (result ≡ 4)) }
     ensures stays { (result ≡ 0 → ⊥) → size.new ≡ size.old }
 {
-    write(
-        find(alloc, table, |held| {
-            held.value().size(part, side).ok_or(RANGE)
-        }),
-        size,
-    )
+    let mut look = |held: &Table| write(held.size(part, side).ok_or(RANGE), size);
+    with_held(alloc, table, &mut look)
 }
 
 /// Decodes all values of a part's side, if the length of `values` is their number.
@@ -174,12 +164,8 @@ pub extern "C" fn szg_all(
     ensures other_length { IfSome table.old.value (λ t. IfSome (subtable_at t.contents part side) (λ found. length values.old ≢ found.0.size → result ≡ 4)) }
     ensures stays { (result ≡ 0 → ⊥) → values.new ≡ values.old }
 {
-    let Some(held) = take(table, alloc) else {
-        return CLOSED;
-    };
-    let status = values_in(held.value(), part, side, values);
-    put(table, held);
-    status
+    let mut look = |held: &Table| values_in(held, part, side, values);
+    with_held(alloc, table, &mut look)
 }
 
 /// Finds the distance in plies of a DTZ value in a class (2 win, 1 cursed win, -1 blessed loss, -2 loss).
@@ -200,10 +186,6 @@ pub extern "C" fn szg_number(
     ensures closed { table.old.value ≡ None → (result ≡ 5) × (number.new ≡ number.old) }
     ensures reported { IfSome table.old.value (λ t. MatchResult (number_result (index_of t.contents) part class value) (λ n. (result ≡ 0) × (number.new ≡ n)) (λ status. (result ≡ status) × (number.new ≡ number.old))) }
 {
-    write(
-        find(alloc, table, |held| {
-            number_in(held.value().index(), part, class, value)
-        }),
-        number,
-    )
+    let mut look = |held: &Table| write(number_in(held.index(), part, class, value), number);
+    with_held(alloc, table, &mut look)
 }

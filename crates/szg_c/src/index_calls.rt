@@ -1,5 +1,5 @@
 //! Calls on the placement of an index.
-ghost use Rattle.std.specs.Prelude.{◌≡◌, ◌<◌, Err, IfSome, MatchResult, Ok, Result, length};
+ghost use Rattle.std.specs.Prelude.{◌≡◌, IfSome, MatchResult, length};
 ghost use Rattle.std.specs.declared.option.Option.TheVariants.{None};
 ghost use Rattle.szg_file.specs.Index.{index_of};
 ghost use Rattle.szg_c.specs.Men.{IsWritten, with_room};
@@ -7,14 +7,14 @@ ghost use Rattle.szg_c.specs.Places.{placement_result};
 ghost use Rattle.szg_c.specs.declared.status.TheConstants.{CLOSED, DONE};
 
 use crate::fronts::has_index;
-use crate::handle::find;
+use crate::handle::with_held;
 use crate::held_front::HeldFront;
 use crate::held_table::HeldTable;
 use crate::men::{RawMan, write_placement};
 use crate::places::place_status;
 use crate::status::RANGE;
 use std::alloc::Global;
-use szg_file::TableIndex;
+use szg_file::{FrontTable, Table, TableIndex};
 use szg_place::{Spot, placement};
 use szg_values::Placement;
 
@@ -41,10 +41,9 @@ pub extern "C" fn szg_placement(
     ensures reported { IfSome table.old.value (λ t. MatchResult (with_room (length men.old) (placement_result (index_of t.contents) part side index)) (λ board. (result ≡ DONE) × IsWritten board men.old men.new count.new mover.new) (λ status. result ≡ status)) }
     ensures stays { (result ≡ DONE → ⊥) → (men.new ≡ men.old) × (count.new ≡ count.old) × (mover.new ≡ mover.old) }
 {
-    let found = find(alloc, table, |held| {
-        placement_by(held.value().index(), part, side, index)
-    });
-    write_found(found, men, count, mover)
+    let spot = Spot { part, side, index };
+    let mut look = |held: &Table| write_placement_of(held.index(), spot, men, count, mover);
+    with_held(alloc, table, &mut look)
 }
 
 /// Writes the placement of an index of a part's side, as `szg_placement`.
@@ -66,34 +65,27 @@ pub extern "C" fn szg_front_placement(
     ensures reported { IfSome front.old.value (λ f. MatchResult (with_room (length men.old) (placement_result f.index part side index)) (λ board. (result ≡ DONE) × IsWritten board men.old men.new count.new mover.new) (λ status. result ≡ status)) }
     ensures stays { (result ≡ DONE → ⊥) → (men.new ≡ men.old) × (count.new ≡ count.old) × (mover.new ≡ mover.old) }
 {
-    let found = find(alloc, front, |held| {
-        placement_by(held.value().index(), part, side, index)
-    });
-    write_found(found, men, count, mover)
+    let spot = Spot { part, side, index };
+    let mut look = |held: &FrontTable| write_placement_of(held.index(), spot, men, count, mover);
+    with_held(alloc, front, &mut look)
 }
 
-/// Returns the placement of an index by a table's index. Errors: a status.
-fn placement_by(table: &TableIndex, part: u8, side: u8, index: u64) -> Result<Placement, u32>
-    ensures { result ≡ placement_result table.now part side index }
-{
-    if !has_index(table, part, side, index) {
-        return Err(RANGE);
-    }
-    placement(table, Spot { part, side, index }).map_err(place_status)
-}
-
-/// Writes a placement, if there is one; returns the status.
-fn write_found(
-    found: Result<Placement, u32>,
+/// Writes the placement of a spot by a table's index, if there is one; returns the status.
+fn write_placement_of(
+    table: &TableIndex,
+    spot: Spot,
     men: &mut [RawMan],
     count: &mut usize,
     mover: &mut u8,
 ) -> u32
-    ensures reported { MatchResult (with_room (length men.old) found) (λ board. (result ≡ DONE) × IsWritten board men.old men.new count.new mover.new) (λ status. result ≡ status) }
+    ensures reported { MatchResult (with_room (length men.old) (placement_result table.now spot.part spot.side spot.index)) (λ board. (result ≡ DONE) × IsWritten board men.old men.new count.new mover.new) (λ status. result ≡ status) }
     ensures stays { (result ≡ DONE → ⊥) → (men.new ≡ men.old) × (count.new ≡ count.old) × (mover.new ≡ mover.old) }
 {
-    match found {
+    if !has_index(table, spot) {
+        return RANGE;
+    }
+    match placement(table, spot) {
         Ok(placement) => write_placement(&placement, men, count, mover),
-        Err(status) => status,
+        Err(fault) => place_status(fault),
     }
 }

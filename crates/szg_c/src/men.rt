@@ -1,5 +1,5 @@
 //! Placements as C passes them.
-ghost use Rattle.std.specs.Prelude.{◌≡◌, ◌<◌, ◌≤◌, ◌&&◌, IsTrue, IsFalse, IfSome, IsNone, MatchResult, Ok, length, map, true, []};
+ghost use Rattle.std.specs.Prelude.{◌≡◌, ◌<◌, ◌≤◌, ◌&&◌, ◌⊎◌, IsTrue, IsFalse, IfErr, IfOk, IfSome, IsNone, MatchResult, Ok, length, map, nat_lt, true, []};
 ghost use Rattle.std.specs.declared.option.Option.TheVariants.{None, Some};
 ghost use Rattle.std.specs.List.{list_all};
 ghost use Rattle.szg_values.specs.Placement.{AreStanding, men_key};
@@ -84,23 +84,32 @@ fn put_men(men: &[RawMan], placed_men: &mut ArrayVec<(Man, Color, Square), MAX_M
 pub(crate) fn placement_or_fault(men: &[RawMan], mover: u8) -> Result<Placement, u32>
     ensures { result ≡ board_of men.now mover }
 {
-    if mover >= 2 {
-        return Err(MAN);
-    }
-    if men.len() > MAX_MEN {
-        return Err(if are_coded_men(men) { MEN } else { MAN });
-    }
-    let Some(placed_men) = placed_men(men) else {
-        return Err(MAN);
-    };
-    match Placement::of(placed_men, color_of(mover)) {
-        Ok(placement) => Ok(placement),
-        Err(fault) => Err(placement_status(fault)),
+    match decoded_men(men, mover) {
+        Ok(placed_men) => Placement::of(placed_men, color_of(mover)).map_err(placement_status),
+        Err(status) => Err(status),
     }
 }
 
+/// Decodes the men, if the side to move is a colour's number. Errors: the first status that applies, of `MAN` for an invalid
+/// number and `MEN` for more than six men.
+pub(crate) fn decoded_men(
+    men: &[RawMan],
+    mover: u8,
+) -> Result<ArrayVec<(Man, Color, Square), MAX_MEN>, u32>
+    ensures placed { IfOk result (λ placed_men. IsTrue (nat_lt mover 2 && list_all is_coded_man men.now) × (placed_men.items ≡ map placed_man_of men.now)) }
+    ensures fault { IfErr result (λ status. ((status ≡ 6) × IsFalse (nat_lt mover 2 && list_all is_coded_man men.now)) ⊎ ((status ≡ 7) × IsTrue (nat_lt mover 2 && list_all is_coded_man men.now) × (6 < length men.now))) }
+{
+    if mover >= 2 || !are_coded_men(men) {
+        return Err(MAN);
+    }
+    if men.len() > MAX_MEN {
+        return Err(MEN);
+    }
+    placed_men(men).ok_or(MAN)
+}
+
 /// Whether each man's numbers encode a kind, a colour and a square.
-pub(crate) fn are_coded_men(men: &[RawMan]) -> bool
+fn are_coded_men(men: &[RawMan]) -> bool
     ensures { result ≡ list_all is_coded_man men.now }
 {
     men.iter().all(|man| is_coded_man(man))
@@ -112,8 +121,8 @@ fn is_coded_man(man: &RawMan) -> bool
     0 < man.kind && man.kind < 7 && man.color < 2 && man.square < 64
 }
 
-/// Decodes the men. None if a man's numbers are invalid.
-pub(crate) fn placed_men(men: &[RawMan]) -> Option<ArrayVec<(Man, Color, Square), MAX_MEN>>
+/// Decodes at most six men. None if a man's numbers are invalid.
+fn placed_men(men: &[RawMan]) -> Option<ArrayVec<(Man, Color, Square), MAX_MEN>>
     requires { length men.now ≤ 6 }
     ensures reported { IfSome result (λ placed_men. IsTrue (list_all is_coded_man men.now) × (placed_men.items ≡ map placed_man_of men.now)) }
     ensures unstated { IsNone result → IsFalse (list_all is_coded_man men.now) }

@@ -6,12 +6,11 @@ ghost use Rattle.szg_c.specs.Men.{board_of};
 ghost use Rattle.szg_c.specs.Outcomes.{IsOutcome, IsOutcomeOfMen, class_or_status, distance_or_status, fault_or_status};
 ghost use Rattle.szg_c.specs.Places.{IsSpot, is_class, map_status as map_fault_status, outcome_result, place_status as place_fault_status, spot_result};
 
-use crate::handle::{put, take};
+use crate::handle::with_held;
 use crate::held_table::HeldTable;
 use crate::men::{RawMan, key_of_men, placement_or_fault, sound_men};
 use crate::status::{
-    CLOSED, DONE, DRAW, IRREGULAR, KINGS_TOUCH, NO_CLASS, OTHER_MATERIAL, OUTSIDE_MAP, RANGE,
-    WRONG_SIDE,
+    DONE, DRAW, IRREGULAR, KINGS_TOUCH, NO_CLASS, OTHER_MATERIAL, OUTSIDE_MAP, RANGE, WRONG_SIDE,
 };
 use arrayvec::ArrayVec;
 use std::alloc::Global;
@@ -49,12 +48,8 @@ pub extern "C" fn szg_index(
     ensures closed { table.old.value ≡ None → (result ≡ 5) × (spot.new ≡ spot.old) }
     ensures reported { IfSome table.old.value (λ t. MatchResult (spot_result (index_of t.contents) (board_of men.now mover)) (λ found. (result ≡ 0) × IsSpot spot.new found) (λ status. (result ≡ status) × (spot.new ≡ spot.old))) }
 {
-    let Some(held) = take(table, alloc) else {
-        return CLOSED;
-    };
-    let status = write_spot(held.value().index(), men, mover, spot);
-    put(table, held);
-    status
+    let mut look = |held: &Table| write_spot(held.index(), men, mover, spot);
+    with_held(alloc, table, &mut look)
 }
 
 /// Writes the location of men in a table; returns the status. A `Result` with a `Spot` is matched once, where it is made,
@@ -121,12 +116,8 @@ pub extern "C" fn szg_probe(
     ensures closed { table.old.value ≡ None → (result ≡ 5) × (outcome.new ≡ outcome.old) }
     ensures reported { IfSome table.old.value (λ t. MatchResult (outcome_result t.contents class (board_of men.now mover)) (λ n. (result ≡ 0) × (outcome.new ≡ n)) (λ status. (result ≡ status) × (outcome.new ≡ outcome.old))) }
 {
-    let Some(held) = take(table, alloc) else {
-        return CLOSED;
-    };
-    let status = write_outcome(held.value(), men, mover, class, outcome);
-    put(table, held);
-    status
+    let mut look = |held: &Table| write_outcome(held, men, mover, class, outcome);
+    with_held(alloc, table, &mut look)
 }
 
 /// Writes the class or the distance of men in a table; returns the status.

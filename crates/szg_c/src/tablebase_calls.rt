@@ -8,7 +8,7 @@ ghost use Rattle.szg_c.specs.Tablebases.{IsAdded, IsClassProbed, IsDistanceProbe
 
 use crate::handle::{put, share, shut, take};
 use crate::held_tablebase::HeldTablebase;
-use crate::men::{RawMan, are_coded_men, color_of, key_of_men, placed_men, sound_men};
+use crate::men::{RawMan, color_of, decoded_men, key_of_men, sound_men};
 use crate::opening::{RawAnswer, fault_status, kind_of, material_of};
 use crate::places::place_status;
 use crate::status::{
@@ -21,7 +21,7 @@ use std::alloc::Global;
 use szg_chess::{Position, PositionFault};
 use szg_probe::{DistanceFault, RankedMove, probe_dtz, probe_wdl, rank_moves};
 use szg_tables::{MappedSet, MappedTable, Missing, MissingReason, number_of_class};
-use szg_values::{Kind, MAX_MEN, Man, Square};
+use szg_values::{Kind, Man, Square};
 
 /// What a tablebase does not have for a position.
 #[repr(C)]
@@ -191,22 +191,14 @@ fn position_of(men: &[RawMan], mover: u8, en_passant: u8) -> Result<Position, u3
 fn position_or_fault(men: &[RawMan], mover: u8, en_passant: u8) -> Result<Position, u32>
     ensures { result ≡ position_of men.now mover en_passant }
 {
-    if mover >= 2 {
-        return Err(MAN);
-    }
-    if men.len() > MAX_MEN {
-        return Err(if are_coded_men(men) { MEN } else { MAN });
-    }
-    let Some(placed_men) = placed_men(men) else {
-        return Err(MAN);
-    };
-    match Position::new(
-        placed_men.as_slice(),
-        color_of(mover),
-        Square::new(en_passant),
-    ) {
-        Ok(position) => Ok(position),
-        Err(fault) => Err(position_status(fault)),
+    match decoded_men(men, mover) {
+        Ok(placed_men) => Position::new(
+            placed_men.as_slice(),
+            color_of(mover),
+            Square::new(en_passant),
+        )
+        .map_err(position_status),
+        Err(status) => Err(status),
     }
 }
 

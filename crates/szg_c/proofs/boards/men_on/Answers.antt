@@ -2,7 +2,7 @@ use Rattle.std.proofs.Common.{◌≡◌, ◌∙◌, ◌+◌, ◌++◌, ◌∷◌
 use Rattle.std.specs.Prelude.{flat_map}
 use Rattle.std.proofs.lemmas.Bool.{le-ltb, lt-ltb}
 use Rattle.szg_chess.proofs.Squares.{all_is}
-use Rattle.szg_c.specs.Boards.{man_on, men_on}
+use Rattle.szg_c.specs.Boards.{men_on}
 use Rattle.szg_c.specs.declared.men.RawMan.{RawMan}
 use Rattle.szg_c.proofs.MenOnBoard.{more_than, piece, skip, so_far, with_man}
 use Rattle.szg_c.proofs.boards.men_on.Goals as goal

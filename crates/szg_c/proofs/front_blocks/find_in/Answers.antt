@@ -10,22 +10,22 @@ use Rattle.szg_c.proofs.FrontsStated.{below, missing, there}
 use Rattle.szg_c.proofs.front_blocks.find_in.Goals as goal
 
 pub locate-requires : goal.locate-requires
-locate-requires c = below (slot_in c.args.table.now.index c.args.part c.args.side) c.args.index (sym c.if-not-has_index.false ∙ (c.has_index.ensures ∙ ap (λ (x : Index). is_some (with_slot (slot_in x c.args.part c.args.side) c.args.index)) c.index.ensures))
+locate-requires c = below (slot_in c.args.table.now.index c.args.spot.part c.args.spot.side) c.args.spot.index (sym c.if-not-has_index.false ∙ (c.has_index.ensures ∙ ap (λ (x : Index). is_some (with_slot (slot_in x c.args.spot.part c.args.spot.side) c.args.spot.index)) c.index.ensures))
 
 pub returns-then-not-has_index-clause-statuses : goal.returns-then-not-has_index-clause-statuses
 returns-then-not-has_index-clause-statuses c =
-    missing _ _ (with_slot (slot_in c.args.table.now.index c.args.part c.args.side) c.args.index) (sym c.if-not-has_index.true ∙ (c.has_index.ensures ∙ ap (λ (x : Index). is_some (with_slot (slot_in x c.args.part c.args.side) c.args.index)) c.index.ensures)) refl
+    missing _ _ (with_slot (slot_in c.args.table.now.index c.args.spot.part c.args.spot.side) c.args.spot.index) (sym c.if-not-has_index.true ∙ (c.has_index.ensures ∙ ap (λ (x : Index). is_some (with_slot (slot_in x c.args.spot.part c.args.spot.side) c.args.spot.index)) c.index.ensures)) refl
 
 pub returns-then-not-has_index-clause-found : goal.returns-then-not-has_index-clause-found
 returns-then-not-has_index-clause-found c = λ content front.
-    missing _ _ (with_slot (slot_in c.args.table.now.index c.args.part c.args.side) c.args.index) (sym c.if-not-has_index.true ∙ (c.has_index.ensures ∙ ap (λ (x : Index). is_some (with_slot (slot_in x c.args.part c.args.side) c.args.index)) c.index.ensures)) tt
+    missing _ _ (with_slot (slot_in c.args.table.now.index c.args.spot.part c.args.spot.side) c.args.spot.index) (sym c.if-not-has_index.true ∙ (c.has_index.ensures ∙ ap (λ (x : Index). is_some (with_slot (slot_in x c.args.spot.part c.args.spot.side) c.args.spot.index)) c.index.ensures)) tt
 
 pub returns-clause-statuses : goal.returns-clause-statuses
 returns-clause-statuses c =
-    there _ _ (with_slot (slot_in c.args.table.now.index c.args.part c.args.side) c.args.index) (sym c.if-not-has_index.false ∙ (c.has_index.ensures ∙ ap (λ (x : Index). is_some (with_slot (slot_in x c.args.part c.args.side) c.args.index)) c.index.ensures)) (λ slot. refl)
+    there _ _ (with_slot (slot_in c.args.table.now.index c.args.spot.part c.args.spot.side) c.args.spot.index) (sym c.if-not-has_index.false ∙ (c.has_index.ensures ∙ ap (λ (x : Index). is_some (with_slot (slot_in x c.args.spot.part c.args.spot.side) c.args.spot.index)) c.index.ensures)) (λ slot. refl)
 
 pub returns-clause-found : goal.returns-clause-found
 returns-clause-found c = λ content front.
-    there _ _ (with_slot (slot_in c.args.table.now.index c.args.part c.args.side) c.args.index) (sym c.if-not-has_index.false ∙ (c.has_index.ensures ∙ ap (λ (x : Index). is_some (with_slot (slot_in x c.args.part c.args.side) c.args.index)) c.index.ensures))
-    (λ slot. weaker (front_at c.args.table.now.index.material c.args.table.now.index.kind content c.args.part c.args.side) _ _ (wanted_of c.locate.result _ c.locate.ensures c.range.result c.range.ensures.wanted content front)
-    (λ found wanted. range_stated c.range.result (wanted_block found.1 c.args.index) content c.raw_range.result wanted c.raw_range.ensures))
+    there _ _ (with_slot (slot_in c.args.table.now.index c.args.spot.part c.args.spot.side) c.args.spot.index) (sym c.if-not-has_index.false ∙ (c.has_index.ensures ∙ ap (λ (x : Index). is_some (with_slot (slot_in x c.args.spot.part c.args.spot.side) c.args.spot.index)) c.index.ensures))
+    (λ slot. weaker (front_at c.args.table.now.index.material c.args.table.now.index.kind content c.args.spot.part c.args.spot.side) _ _ (wanted_of c.locate.result _ c.locate.ensures c.range.result c.range.ensures.wanted content front)
+    (λ found wanted. range_stated c.range.result (wanted_block found.1 c.args.spot.index) content c.raw_range.result wanted c.raw_range.ensures))
