@@ -3,8 +3,7 @@ import ctypes
 import os
 from ctypes import byref, c_int64, c_size_t, c_uint8, c_uint16, c_uint32, c_uint64
 from pathlib import Path
-from types import TracebackType
-from typing import Any, Callable, NamedTuple, Optional, Tuple, Type, Union
+from typing import Any, Callable, NamedTuple, Optional, Tuple, Union
 
 from ._library import MAX_MEN, FoundSpot, Handles, Lent, library
 from ._mapped import mapped
@@ -195,9 +194,7 @@ class Table:
     def __enter__(self) -> "Table":
         return self
 
-    def __exit__(
-        self, kind: Optional[Type[BaseException]], error: Optional[BaseException], trace: Optional[TracebackType],
-    ) -> None:
+    def __exit__(self, *error: object) -> None:
         self.close()
 
     def __reduce__(self) -> Tuple[Callable[..., "Table"], Tuple[Any, ...]]:

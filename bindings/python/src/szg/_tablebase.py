@@ -1,7 +1,6 @@
 """Folders of tables."""
 import os
 from itertools import islice
-from types import TracebackType
 from typing import Any, Callable, Dict, Iterable, List, NamedTuple, Optional, Sequence, Tuple, Type, TypeVar, Union, overload
 
 from ._errors import MissingTableError, Untold
@@ -215,9 +214,7 @@ class Tablebase:
     def __enter__(self) -> "Tablebase":
         return self
 
-    def __exit__(
-        self, kind: Optional[Type[BaseException]], error: Optional[BaseException], trace: Optional[TracebackType],
-    ) -> None:
+    def __exit__(self, *error: object) -> None:
         self.close()
 
     def __repr__(self) -> str:
