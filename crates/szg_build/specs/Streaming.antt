@@ -9,7 +9,7 @@ use Rattle.szg_file.specs.Contents.{Map, Slot}
 use Rattle.szg_file.specs.Index.{Index, slots_in}
 use Rattle.szg_build.specs.Dump.{SubDump, subtable_ids_of}
 use Rattle.szg_build.specs.Shown.{form_of}
-use Rattle.szg_build.specs.Text.{Form, flat_map_beside, lines_text, flags_lines, part_word, value_lines}
+use Rattle.szg_build.specs.Text.{Form, lines_text, flags_lines, part_word, value_lines}
 use Rattle.szg_build.specs.declared.writing.dump_sink.DumpSink.{DumpSink}
 
 -- what a dump says of a subtable before its values: its flags, its map and its number of values. In WDL the flags are 0
@@ -49,10 +49,6 @@ head_lines kind place head =
     (codes "sub" ∷ part_word place.0 ∷ decimal place.1 ∷ [])
     ∷ (flags_lines kind (sub_of head) ++ (codes "values" ∷ decimal head.size ∷ []) ∷ [])
 
--- the lines before the values of subtables, without their values
-abbrev pub heads_text : Kind → List (ℕ × ℕ) → List SubHead → List ℕ
-heads_text kind places heads = lines_text (flat_map_beside (head_lines kind) places heads)
-
 -- the text of subtables whose values are these, one after another
 unfoldable pub subtables_text : Form → Kind → List (ℕ × ℕ) → List SubHead → List ℕ → List ℕ
 subtables_text form kind (place ∷ places) (head ∷ heads) values =
@@ -78,7 +74,7 @@ pub record Goes {W : Type 0} (writing : output.Ghosts W) (values : List ℕ) (s 
   pub bytes : List ℕ
   pub given : Gives writing out out' bytes 0
   pub quiet : writing.failures out' ≡ writing.failures out
-  pub whole : (rest : List ℕ) → s.outgoing.held.items ++ text_left s (values ++ rest) ≡ bytes ++ (s'.outgoing.held.items ++ text_left s' rest)
+  pub whole : (rest : List ℕ) → s.text.held.items ++ text_left s (values ++ rest) ≡ bytes ++ (s'.text.held.items ++ text_left s' rest)
 
 -- the lines before the values of each subtable are written, and the last subtable needs no more values
 abbrev pub IsDone : DumpSink → Type 0

@@ -18,21 +18,13 @@ use Rattle.szg_file.proofs.Tables.TableFinds.{side_lengths}
 use Rattle.szg_build.specs.Built.{plan_flags, value_lists}
 use Rattle.szg_build.specs.Dump.{SubDump, subtable_ids_of, subs_of, mapped_subs}
 use Rattle.szg_build.specs.Text.{Form, single, runs, with_value, runs_of, line_text, lines_text, flat_map_beside, part_word, flags_lines, sub_lines, value_lines}
-use Rattle.szg_build.specs.Streaming.{SubHead, no_head, sub_of, mapped_heads, heads_of, heads_text, heads_with, head_lines, subtables_text, rest_text}
+use Rattle.szg_build.specs.Streaming.{SubHead, no_head, sub_of, mapped_heads, heads_of, heads_with, head_lines, subtables_text, rest_text}
 use Rattle.szg_build.proofs.Texts.OwnDumps.{values_count}
 use Rattle.szg_build.proofs.Builders.TableLaws.{flags_shown}
 use Rattle.szg_build.proofs.Texts.Runs.{with_value-same, with_value-other}
 use Rattle.szg_build.proofs.Writers.WritingLaws.{first_run, other_value, lines-append, run_line, value_line}
 
 -- ---- equal values
-
--- items that are all equal
-pub all_same : (values : List ℕ) (v n : ℕ) → n ≤ length values → ((k : ℕ) → k < n → get_or values k 0 ≡ v) → take n values ≡ replicate n v
-all_same values v zero h same = refl
-all_same [] v (suc n) h same = absurd (omega (arith, h))
-all_same (w ∷ values) v (suc n) h same =
-    let here : w ≡ v = same 0 (omega arith) in
-    ap (λ (z : ℕ). z ∷ take n values) here ∙ ap (λ (z : List ℕ). v ∷ z) (all_same values v n (omega (arith, h)) (λ k lt. same (suc k) (omega (arith, lt))))
 
 -- equal values are one run
 pub runs_equal : (count v : ℕ) → runs_of (replicate (suc count) v) ≡ (suc count, v) ∷ []
@@ -108,17 +100,16 @@ module _ (form : Form) (kind : Kind) (places : List (ℕ × ℕ)) (heads : List 
       ∙ append_assoc (lines_text (value_lines form (replicate count w))) (lines_text (value_lines form (replicate n v ++ take more rest))) (subtables_text form kind places heads (drop more rest))
 
   -- a run whose subtable is whole
-  pub run_whole : (count v : ℕ) (values : List ℕ) →
+  run_whole : (count v : ℕ) (values : List ℕ) →
       rest_text form kind places heads count v 0 values ≡ lines_text (value_lines form (replicate count v)) ++ subtables_text form kind places heads values
   unfolding rest_text
   run_whole count v values = ap (λ (z : List ℕ). lines_text (value_lines form z) ++ subtables_text form kind places heads values) (append-nil (replicate count v))
 
-  -- where no values are to come
-  pub run_last : (count v left : ℕ) →
-      rest_text form kind places heads count v left [] ≡ lines_text (value_lines form (replicate count v)) ++ subtables_text form kind places heads []
+  -- where no values are to come, it doesn't matter how many the subtable needs
+  pub none_left : (count v left : ℕ) → rest_text form kind places heads count v left [] ≡ rest_text form kind places heads count v 0 []
   unfolding rest_text
-  run_last count v zero = ap (λ (z : List ℕ). lines_text (value_lines form z) ++ subtables_text form kind places heads []) (append-nil (replicate count v))
-  run_last count v (suc left) = ap (λ (z : List ℕ). lines_text (value_lines form z) ++ subtables_text form kind places heads []) (append-nil (replicate count v))
+  none_left count v zero = refl
+  none_left count v (suc left) = refl
 
   -- nothing is begun
   pub none_begun : (v : ℕ) (values : List ℕ) → rest_text form kind places heads 0 v 0 values ≡ subtables_text form kind places heads values
@@ -151,39 +142,6 @@ run_then_sub form kind places heads next count v left rest whole h k =
     ∙ ap (λ (n : ℕ). lines ++ (lines_text (head_lines kind place head) ++ rest_text form kind (drop n places) (drop n heads) 0 v head.size rest)) one
     ∙ sym (append_assoc lines (lines_text (head_lines kind place head)) (rest_text form kind (drop (next + 1) places) (drop (next + 1) heads) 0 v head.size rest))
 
--- no value is to come
-pub subs_empty : (form : Form) (kind : Kind) (places : List (ℕ × ℕ)) (heads : List SubHead) → subtables_text form kind places heads [] ≡ heads_text kind places heads
-unfolding subtables_text
-subs_empty form kind [] heads = refl
-subs_empty form kind (place ∷ places) [] = refl
-subs_empty form kind (place ∷ places) (head ∷ heads) =
-    ap (λ (z : List ℕ). lines_text (head_lines kind place head) ++ z) (empty form head.size ∙ subs_empty form kind places heads)
-    ∙ sym (lines-append (head_lines kind place head) (flat_map_beside (head_lines kind) places heads)) where
-      empty : (form : Form) (n : ℕ) → lines_text (value_lines form (take n [])) ++ subtables_text form kind places heads (drop n []) ≡ subtables_text form kind places heads []
-      empty single zero = refl
-      empty single (suc n) = refl
-      empty runs zero = refl
-      empty runs (suc n) = refl
-
--- the lines of subtable `s` come first
-pub heads_next : (kind : Kind) (places : List (ℕ × ℕ)) (heads : List SubHead) (s : ℕ) → s < length places → s < length heads →
-    heads_text kind (drop s places) (drop s heads) ≡ lines_text (head_lines kind (get_or places s (0, 0)) (get_or heads s no_head)) ++ heads_text kind (drop (s + 1) places) (drop (s + 1) heads)
-heads_next kind places heads s h k =
-    let one : suc s ≡ s + 1 = omega arith in
-    ap (λ (z : List (ℕ × ℕ)). heads_text kind z (drop s heads)) (drop-cons places s (0, 0) h)
-    ∙ ap (λ (z : List SubHead). heads_text kind (get_or places s (0, 0) ∷ drop (suc s) places) z) (drop-cons heads s no_head k)
-    ∙ lines-append (head_lines kind (get_or places s (0, 0)) (get_or heads s no_head)) (flat_map_beside (head_lines kind) (drop (suc s) places) (drop (suc s) heads))
-    ∙ ap (λ (n : ℕ). lines_text (head_lines kind (get_or places s (0, 0)) (get_or heads s no_head)) ++ heads_text kind (drop n places) (drop n heads)) one
-
-heads_none : (kind : Kind) (places : List (ℕ × ℕ)) (heads : List SubHead) → min (length places) (length heads) ≡ 0 → heads_text kind places heads ≡ []
-heads_none kind [] heads h = refl
-heads_none kind (place ∷ places) [] h = refl
-heads_none kind (place ∷ places) (head ∷ heads) h = absurd (omega (arith, h))
-
--- no lines are left
-pub heads_done : (kind : Kind) (places : List (ℕ × ℕ)) (heads : List SubHead) (s : ℕ) → min (length places) (length heads) ≤ s → heads_text kind (drop s places) (drop s heads) ≡ []
-heads_done kind places heads s h = heads_none kind (drop s places) (drop s heads) (omega (arith, h, length-drop s places, length-drop s heads))
-
 subs_none : (form : Form) (kind : Kind) (places : List (ℕ × ℕ)) (heads : List SubHead) (values : List ℕ) → min (length places) (length heads) ≡ 0 → subtables_text form kind places heads values ≡ []
 unfolding subtables_text
 subs_none form kind [] heads values h = refl
@@ -191,11 +149,21 @@ subs_none form kind (place ∷ places) [] values h = refl
 subs_none form kind (place ∷ places) (head ∷ heads) values h = absurd (omega (arith, h))
 
 -- no subtable is left
-pub subs_done : (form : Form) (kind : Kind) (places : List (ℕ × ℕ)) (heads : List SubHead) (next : ℕ) (values : List ℕ) → min (length places) (length heads) ≤ next →
+subs_done : (form : Form) (kind : Kind) (places : List (ℕ × ℕ)) (heads : List SubHead) (next : ℕ) (values : List ℕ) → min (length places) (length heads) ≤ next →
     subtables_text form kind (drop next places) (drop next heads) values ≡ []
 subs_done form kind places heads next values h =
     let few : min (length (drop next places)) (length (drop next heads)) ≡ 0 = omega (arith, h, length-drop next places, length-drop next heads) in
     subs_none form kind (drop next places) (drop next heads) values few
+
+-- a run whose subtable is whole, where no subtable is left
+pub run_done : (form : Form) (kind : Kind) (places : List (ℕ × ℕ)) (heads : List SubHead) (next count v left : ℕ) (values : List ℕ) → left ≡ 0 → min (length places) (length heads) ≤ next →
+    rest_text form kind (drop next places) (drop next heads) count v left values ≡ lines_text (value_lines form (replicate count v))
+run_done form kind places heads next count v left values whole h =
+    let lines = lines_text (value_lines form (replicate count v)) in
+    ap (λ (n : ℕ). rest_text form kind (drop next places) (drop next heads) count v n values) whole
+    ∙ run_whole form kind (drop next places) (drop next heads) count v values
+    ∙ ap (λ (z : List ℕ). lines ++ z) (subs_done form kind places heads next values h)
+    ∙ append-nil lines
 
 -- ---- the heads, by their numbers
 

@@ -61,12 +61,12 @@ whole_text form x last t is ends accepted =
 -- what was written before the subtables, what is buffered and what is left to write
 pub front_and_left : (form : ℕ) (x : Index) (last : List ℕ) (t : Shown) (s : DumpSink) (bytes values : List ℕ) →
     s.index.now ≡ x → (s.form ≡ form) × (s.next ≡ 0) × (s.left ≡ 0) × (s.count ≡ 0) →
-    bytes ++ s.outgoing.held.items ≡ lines_text (front_lines (form_of form) x.material x.kind last) ++ lines_text (flat_map_beside part_lines (parts_of x.material) x.parts) →
+    bytes ++ s.text.held.items ≡ lines_text (front_lines (form_of form) x.material x.kind last) ++ lines_text (flat_map_beside part_lines (parts_of x.material) x.parts) →
     values ≡ wanted_of all_wanted t.contents → x ≡ index_of t.contents → last ≡ t.contents.last → IsAccepted t.contents t.filled →
-    bytes ++ (s.outgoing.held.items ++ text_left s values) ≡ dump_text (form_of form) (own_dump t.contents)
+    bytes ++ (s.text.held.items ++ text_left s values) ≡ dump_text (form_of form) (own_dump t.contents)
 front_and_left form x last t s bytes values index begun front all is ends accepted =
     let begin = lines_text (front_lines (form_of form) x.material x.kind last) ++ lines_text (flat_map_beside part_lines (parts_of x.material) x.parts) in
-    sym (append_assoc bytes s.outgoing.held.items (text_left s values))
+    sym (append_assoc bytes s.text.held.items (text_left s values))
     ∙ ap (λ (z : List ℕ). z ++ text_left s values) front
     ∙ ap (λ (z : List ℕ). begin ++ text_left s z) all
     ∙ ap (λ (z : List ℕ). begin ++ z) (begun_text s form x (wanted_of all_wanted t.contents) index begun.0 begun.1 begun.2 begun.3)
@@ -75,13 +75,13 @@ front_and_left form x last t s bytes values index begun front all is ends accept
 -- what was written before the blocks, for their values and at the end
 pub streamed_text : {W : Type 0} (writing : output.Ghosts W) (form : ℕ) (x : Index) (last : List ℕ) (t : Shown) (s : DumpSink) (s' : DumpSink) (out out1 out2 out3 : W) →
     s.index.now ≡ x → (s.form ≡ form) × (s.next ≡ 0) × (s.left ≡ 0) × (s.count ≡ 0) →
-    ((bytes : List ℕ) × Gives writing out out1 bytes 0 × (bytes ++ s.outgoing.held.items ≡ lines_text (front_lines (form_of form) x.material x.kind last) ++ lines_text (flat_map_beside part_lines (parts_of x.material) x.parts))) →
-    Goes writing (wanted_of all_wanted t.contents) s out1 s' out2 → Gives writing out2 out3 (s'.outgoing.held.items ++ text_left s' []) 0 →
+    ((bytes : List ℕ) × Gives writing out out1 bytes 0 × (bytes ++ s.text.held.items ≡ lines_text (front_lines (form_of form) x.material x.kind last) ++ lines_text (flat_map_beside part_lines (parts_of x.material) x.parts))) →
+    Goes writing (wanted_of all_wanted t.contents) s out1 s' out2 → Gives writing out2 out3 (s'.text.held.items ++ text_left s' []) 0 →
     x ≡ index_of t.contents → last ≡ t.contents.last → IsAccepted t.contents t.filled →
     Gives writing out out3 (dump_text (form_of form) (own_dump t.contents)) 0
 streamed_text writing form x last t s s' out out1 out2 out3 index begun front goes end is ends accepted =
     let all = wanted_of all_wanted t.contents in
-    let last_text = s'.outgoing.held.items ++ text_left s' [] in
+    let last_text = s'.text.held.items ++ text_left s' [] in
     let stated : front.0 ++ (goes.bytes ++ last_text) ≡ dump_text (form_of form) (own_dump t.contents) =
     ap (λ (z : List ℕ). front.0 ++ z) (sym (goes.whole [])) ∙ front_and_left form x last t s front.0 (all ++ []) index begun front.2 (append-nil all) is ends accepted in
     subst (λ (z : List ℕ). Gives writing out out3 z 0) stated (Gives-on front.0 (goes.bytes ++ last_text) 0 front.1 (Gives-on goes.bytes last_text 0 goes.given end))

@@ -55,21 +55,17 @@ values_begun f pairs i done rest h e =
 pub blocks_more : (done here left left' whole : List ℕ) → done ++ left ≡ whole → left ≡ here ++ left' → (done ++ here) ++ left' ≡ whole
 blocks_more done here left left' whole e next = append_assoc done here left' ∙ ap (λ (z : List ℕ). done ++ z) (sym next) ∙ e
 
--- no block is left
-pub blocks_done : (done left whole : List ℕ) → done ++ left ≡ whole → left ≡ [] → done ≡ whole
-blocks_done done left whole e none = sym (append-nil done) ∙ ap (λ (z : List ℕ). done ++ z) (sym none) ∙ e
-
 -- a beginning of the dump was written
 pub begun_text : {W : Type 0} (writing : output.Ghosts W) (form : ℕ) (x : Index) (last : List ℕ) (t : Shown) (s : DumpSink) (s' : DumpSink) (out out1 out2 : W) (done rest : List ℕ) →
     s.index.now ≡ x → (s.form ≡ form) × (s.next ≡ 0) × (s.left ≡ 0) × (s.count ≡ 0) →
-    ((bytes : List ℕ) × Gives writing out out1 bytes 0 × (bytes ++ s.outgoing.held.items ≡ lines_text (front_lines (form_of form) x.material x.kind last) ++ lines_text (flat_map_beside part_lines (parts_of x.material) x.parts))) →
+    ((bytes : List ℕ) × Gives writing out out1 bytes 0 × (bytes ++ s.text.held.items ≡ lines_text (front_lines (form_of form) x.material x.kind last) ++ lines_text (flat_map_beside part_lines (parts_of x.material) x.parts))) →
     done ++ rest ≡ wanted_of all_wanted t.contents → Goes writing done s out1 s' out2 →
     x ≡ index_of t.contents → last ≡ t.contents.last → IsAccepted t.contents t.filled →
     (text : List ℕ) × (more : List ℕ) × (text ++ more ≡ dump_text (form_of form) (own_dump t.contents)) × Gives writing out out2 text 0
 begun_text writing form x last t s s' out out1 out2 done rest index begun front all goes is ends accepted = (
   front.0 ++ goes.bytes,
-  s'.outgoing.held.items ++ text_left s' rest,
-  append_assoc front.0 goes.bytes (s'.outgoing.held.items ++ text_left s' rest)
+  s'.text.held.items ++ text_left s' rest,
+  append_assoc front.0 goes.bytes (s'.text.held.items ++ text_left s' rest)
       ∙ ap (λ (z : List ℕ). front.0 ++ z) (sym (goes.whole rest))
       ∙ front_and_left form x last t s front.0 (done ++ rest) index begun front.2 all is ends accepted,
   Gives-on front.0 goes.bytes 0 front.1 goes.given,

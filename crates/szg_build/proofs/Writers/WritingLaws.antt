@@ -4,7 +4,7 @@ use Rattle.std.specs.Prelude.{Result, Ok, Err, OnOk, OnErr, IfErr, ◌⊎◌, �
 use Rattle.std.specs.List.{flat_map, range_with_len}
 use Rattle.std.specs.Fmt.{decimal}
 use Rattle.std.proofs.lemmas.Bool.{eqb-true, eq-eqb}
-use Rattle.std.proofs.lemmas.List.{length-append, length-take, length-drop, take-append-drop, take_all, get_or-drop, drop-drop, drop_all, length-map}
+use Rattle.std.proofs.lemmas.List.{length-append, length-take, length-drop, take-append-drop, take_all, length-map}
 use Rattle.std.proofs.lemmas.List.FromFn.{length-range_with_len, get_or-range_with_len}
 use Rattle.std.proofs.Math.Seq.{take-suc, drop-cons, take-append_seam}
 use Rattle.std.proofs.lemmas.Grind.{flat_map-append}
@@ -205,9 +205,6 @@ run_line run = line_text (decimal run.0 ∷ decimal run.1 ∷ [])
 pub lines_of_items : {A : Type 0} (number : A → ℕ) (items : List A) → lines_text (map (λ v. decimal v ∷ []) (map number items)) ≡ flat_map (λ item. value_line (number item)) items
 lines_of_items number items = flat_map-map line_text (λ v. decimal v ∷ []) (map number items) ∙ flat_map-map value_line number items
 
-pub lines_of_runs : (found : List (ℕ × ℕ)) → lines_text (map (λ run. decimal run.0 ∷ decimal run.1 ∷ []) found) ≡ flat_map run_line found
-lines_of_runs found = flat_map-map line_text (λ (run : ℕ × ℕ). decimal run.0 ∷ decimal run.1 ∷ []) found
-
 abbrev pub byte_digits : ℕ → List ℕ
 byte_digits b = encode_lower (b ∷ [])
 
@@ -256,10 +253,6 @@ beside_rest f (a ∷ xs) (b ∷ ys) zero x y h h' = (flat_map_beside f xs ys, re
 beside_rest f (a ∷ xs) (b ∷ ys) (suc at) x y h h' =
     let inner = beside_rest f xs ys at x y (omega (arith, h)) (omega (arith, h')) in
     (inner.0, ap (λ (z : List _). f a b ++ z) inner.1 ∙ sym (append_assoc (f a b) (flat_map_beside f (take at xs) (take at ys)) (f (get_or xs at x) (get_or ys at y) ++ inner.0)))
-
-beside_none : {A B C : Type 0} (f : A → B → List C) (xs : List A) → flat_map_beside f xs [] ≡ []
-beside_none f [] = refl
-beside_none f (a ∷ xs) = refl
 
 beside_all : {A B C : Type 0} (f : A → B → List C) (xs : List A) (ys : List B) (at : ℕ) → min (length xs) (length ys) ≤ at → flat_map_beside f (take at xs) (take at ys) ≡ flat_map_beside f xs ys
 beside_all f [] ys zero h = refl

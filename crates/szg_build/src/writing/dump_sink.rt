@@ -19,7 +19,7 @@ pub(crate) struct DumpSink<'a> {
     pub count: u64,
     /// The value of that run.
     pub value: u16,
-    pub outgoing: OutgoingText,
+    pub text: OutgoingText,
     /// Whether the writer failed.
     pub failed: bool,
     // A run is no longer than its subtable.

@@ -1,13 +1,12 @@
 //! Writes the dump of a table whose values come block by block.
-ghost use Rattle.std.specs.Prelude.{◌≡◌, ℕ, ◌+◌, ◌≤◌, ◌<◌, ◌⊎◌, [], ◌∷◌, ◌++◌, drop, length, min, map, replicate, get_or, true, false, None, Ok, OnOk, OnErr, Err, IsErrOf, IfOk, IsTrue, List};
+ghost use Rattle.std.specs.Prelude.{◌≡◌, ℕ, ◌+◌, ◌≤◌, ◌<◌, ◌⊎◌, [], ◌++◌, length, min, map, replicate, get_or, true, false, Ok, OnOk, OnErr, Err, IfOk, List};
 ghost use Rattle.szg_io.specs.Device.{HasFailed};
-ghost use Rattle.szg_io.specs.Moved.{Gives, Takes};
+ghost use Rattle.szg_io.specs.Moved.{Gives};
 ghost use Rattle.szg_values.specs.declared.Kind.{Kind};
-ghost use Rattle.szg_file.specs.Index.{index_of, slots_in};
-ghost use Rattle.szg_build.specs.Dump.{parts_of, subtable_ids_of};
+ghost use Rattle.szg_build.specs.Dump.{parts_of};
 ghost use Rattle.szg_build.specs.Shown.{form_of};
-ghost use Rattle.szg_build.specs.Streaming.{Goes, IsDone, head_count, head_lines, heads_of, heads_text, no_head, sub_of, text_left};
-ghost use Rattle.szg_build.specs.Text.{flags_lines, front_lines, lines_text, part_lines, flat_map_beside, value_lines};
+ghost use Rattle.szg_build.specs.Streaming.{Goes, IsDone, head_count, heads_of, no_head, sub_of, text_left};
+ghost use Rattle.szg_build.specs.Text.{flags_lines, front_lines, lines_text, part_lines, flat_map_beside};
 ghost use Rattle.szg_build.specs.Writing.{Writing};
 
 use crate::places::places;
@@ -58,48 +57,6 @@ fn put_flags_of<W: Output>(
     }
 }
 
-/// Returns the number of values of subtable `s`.
-fn size_of(index: &TableIndex, s: usize) -> u64
-    requires { s < length (heads_of index.now) }
-    ensures { result ≡ (get_or (heads_of index.now) s no_head).size }
-{
-    let slot = index.slots()[s];
-    slot.size
-}
-
-/// Writes the lines before the values of subtable `s`.
-fn put_head<W: Output>(
-    index: &TableIndex,
-    s: usize,
-    output: &mut W,
-    outgoing: &mut OutgoingText,
-) -> Result<(), WriteFault>
-    requires { s < head_count index.now }
-    ensures written { OnOk result (Writing {X = Unit {0}} (lines_text (head_lines index.now.kind (get_or (subtable_ids_of index.now.material index.now.kind) s (0, 0)) (get_or (heads_of index.now) s no_head))) outgoing.old outgoing.new W.Output output.old output.new (Ok tt)) }
-    ensures failed { OnErr result (HasFailed (W.failures output.old) (W.failures output.new) (W.interrupted output.new)) }
-{
-    let places = places(index.material(), index.kind());
-    put_subtable_id(places[s], output, outgoing)?;
-    put_flags_of(index, s, output, outgoing)?;
-    put_number(b"values ", size_of(index, s), output, outgoing)
-}
-
-/// Writes the lines before the values of each subtable from number `from` on.
-fn put_heads<W: Output>(
-    index: &TableIndex,
-    from: usize,
-    output: &mut W,
-    outgoing: &mut OutgoingText,
-) -> Result<(), WriteFault>
-    ensures written { OnOk result (Writing {X = Unit {0}} (heads_text index.now.kind (drop from (subtable_ids_of index.now.material index.now.kind)) (drop from (heads_of index.now))) outgoing.old outgoing.new W.Output output.old output.new (Ok tt)) }
-    ensures failed { OnErr result (HasFailed (W.failures output.old) (W.failures output.new) (W.interrupted output.new)) }
-{
-    'subtables: for s in from..count_subs(index) {
-        put_head(index, s, output, outgoing)?;
-    }
-    Ok(())
-}
-
 // ---- the sink
 
 /// Creates a sink for the dump of a table with this index, and writes the lines before the subtables.
@@ -113,14 +70,14 @@ pub(crate) fn begin_dump<'a, W: Output>(
     ensures index { IfOk result (λ sink. sink.index.now ≡ index.now) }
     ensures begun { IfOk result (λ sink. (sink.form ≡ form) × (sink.next ≡ 0) × (sink.left ≡ 0) × (sink.count ≡ 0)) }
     ensures given { IfOk result (λ sink. (bytes : List ℕ) × Gives W.Output output.old output.new bytes 0
-        × (bytes ++ sink.outgoing.held.items ≡ lines_text (front_lines (form_of form) index.now.material index.now.kind last.now) ++ lines_text (flat_map_beside part_lines (parts_of index.now.material) index.now.parts))) }
+        × (bytes ++ sink.text.held.items ≡ lines_text (front_lines (form_of form) index.now.material index.now.kind last.now) ++ lines_text (flat_map_beside part_lines (parts_of index.now.material) index.now.parts))) }
     ensures failed { OnErr result (HasFailed (W.failures output.old) (W.failures output.new) (W.interrupted output.new)) }
     ensures quiet { OnOk result (W.failures output.new ≡ W.failures output.old) }
 {
-    let mut outgoing = OutgoingText::new();
+    let mut text = OutgoingText::new();
     let material = index.material();
-    put_front(form, material, index.kind(), last, output, &mut outgoing)?;
-    put_parts(material, index.parts(), output, &mut outgoing)?;
+    put_front(form, material, index.kind(), last, output, &mut text)?;
+    put_parts(material, index.parts(), output, &mut text)?;
     Ok(DumpSink {
         index,
         form,
@@ -128,7 +85,7 @@ pub(crate) fn begin_dump<'a, W: Output>(
         left: 0,
         count: 0,
         value: 0,
-        outgoing,
+        text,
         failed: false,
     })
 }
@@ -142,16 +99,15 @@ fn begin_sub<W: Output>(sink: &mut DumpSink<'_>, output: &mut W) -> Result<(), W
     ensures failed { OnErr result (HasFailed (W.failures output.old) (W.failures output.new) (W.interrupted output.new)) }
     ensures index { OnOk result (sink.new.index ≡ sink.old.index) }
 {
-    put_equal(
-        sink.form,
-        sink.count,
-        sink.value,
-        output,
-        &mut sink.outgoing,
-    )?;
-    put_head(sink.index, sink.next, output, &mut sink.outgoing)?;
+    put_equal(sink.form, sink.count, sink.value, output, &mut sink.text)?;
+    let (index, s) = (sink.index, sink.next);
+    let places = places(index.material(), index.kind());
+    put_subtable_id(places[s], output, &mut sink.text)?;
+    put_flags_of(index, s, output, &mut sink.text)?;
+    let slot = index.slots()[s];
+    put_number(b"values ", slot.size, output, &mut sink.text)?;
     sink.count = 0;
-    sink.left = size_of(sink.index, sink.next);
+    sink.left = slot.size;
     sink.next += 1;
     Ok(())
 }
@@ -190,13 +146,7 @@ fn add_run<W: Output>(
         sink.count += count;
         return Ok(());
     }
-    put_equal(
-        sink.form,
-        sink.count,
-        sink.value,
-        output,
-        &mut sink.outgoing,
-    )?;
+    put_equal(sink.form, sink.count, sink.value, output, &mut sink.text)?;
     sink.left -= count;
     sink.value = value;
     sink.count = count;
@@ -245,18 +195,16 @@ pub(crate) fn add_values<W: Output>(
 
 /// Writes the rest of the dump after the last values, and the bytes that are still buffered.
 pub(crate) fn end_dump<W: Output>(sink: &mut DumpSink<'_>, output: &mut W) -> Result<(), WriteFault>
-    ensures given { OnOk result (Gives W.Output output.old output.new (sink.old.outgoing.held.items ++ text_left sink.old []) 0) }
+    ensures given { OnOk result (Gives W.Output output.old output.new (sink.old.text.held.items ++ text_left sink.old []) 0) }
     ensures failed { OnErr result (HasFailed (W.failures output.old) (W.failures output.new) (W.interrupted output.new)) }
 {
-    put_equal(
-        sink.form,
-        sink.count,
-        sink.value,
-        output,
-        &mut sink.outgoing,
-    )?;
-    put_heads(sink.index, sink.next, output, &mut sink.outgoing)?;
-    flush(output, &mut sink.outgoing)
+    sink.left = 0;
+    'begun: while sink.next < count_subs(sink.index) {
+        begin_sub(sink, output)?;
+        sink.left = 0;
+    }
+    put_equal(sink.form, sink.count, sink.value, output, &mut sink.text)?;
+    flush(output, &mut sink.text)
 }
 
 impl<W: Output> ValueSink<W> for DumpSink<'_> {
@@ -272,22 +220,18 @@ impl<W: Output> ValueSink<W> for DumpSink<'_> {
     }
 
     fn put(&mut self, values: &[u16], out: &mut W) -> Result<(), SinkFault> {
-        match add_values(self, values, out) {
-            Ok(()) => Ok(()),
-            Err(_) => {
-                self.failed = true;
-                Err(SinkFault)
-            }
-        }
+        let Ok(()) = add_values(self, values, out) else {
+            self.failed = true;
+            return Err(SinkFault);
+        };
+        Ok(())
     }
 
     fn put_same(&mut self, value: u16, count: u64, out: &mut W) -> Result<(), SinkFault> {
-        match add_same(self, value, count, out) {
-            Ok(()) => Ok(()),
-            Err(_) => {
-                self.failed = true;
-                Err(SinkFault)
-            }
-        }
+        let Ok(()) = add_same(self, value, count, out) else {
+            self.failed = true;
+            return Err(SinkFault);
+        };
+        Ok(())
     }
 }

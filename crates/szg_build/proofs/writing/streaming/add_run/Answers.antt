@@ -19,7 +19,7 @@ returns-then-sink-value-clause-goes g c =
       given = Gives-none g.W.Output c.args.output.now 0;
       quiet = refl;
       whole = λ rest.
-          ap (λ (z : List ℕ). s.outgoing.held.items ++ z)
+          ap (λ (z : List ℕ). s.text.held.items ++ z)
           (ap (λ (v : ℕ). text_left s (replicate c.args.count v ++ rest)) (sym c.if-sink-value.true)
           ∙ run_grows (form_of s.form) x.kind (drop s.next (subtable_ids_of x.material x.kind)) (drop s.next (heads_of x)) s.count s.value c.args.count s.left (s.left - c.args.count) rest (omega (arith, c.requires.within)));
     }

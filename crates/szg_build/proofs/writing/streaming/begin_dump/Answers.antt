@@ -24,7 +24,7 @@ returns-clause-given g c =
       h.bytes,
       h.given,
       h.answer.0.whole
-          ∙ ap (λ (z : List ℕ). z ++ (front form m c.kind.result last ++ parts m (map part_of c.parts.result.now))) c.new-outgoing.ensures.held
+          ∙ ap (λ (z : List ℕ). z ++ (front form m c.kind.result last ++ parts m (map part_of c.parts.result.now))) c.new-text.ensures.held
           ∙ ap (λ (y : Sides). front form y c.kind.result last ++ parts y (map part_of c.parts.result.now)) c.material-material.ensures
           ∙ ap (λ (y : Kind). front form x.material y last ++ parts x.material (map part_of c.parts.result.now)) c.kind.ensures
           ∙ ap (λ (y : List Part). front form x.material x.kind last ++ parts x.material y) c.parts.ensures.bytes,
