@@ -60,7 +60,7 @@ const FEW_PAIRS: u32 = 256;
 
 /// The bounds that one call of `drop_pairs` tries: `first`, then `step` more each time, up to `last`. A pair that is no
 /// half of a kept pair is dropped if it saves less than the bound, in bits times `BIT`.
-#[derive(Clone, Copy)]
+#[derive(Drop)]
 struct Bounds {
     first: u64,
     step: u64,

@@ -247,9 +247,6 @@ fn choose(
     let mut next = None;
     let mut place = leaves.len();
     for _ in 0..leaves.len() {
-        if place == 0 {
-            break;
-        }
         let is_repeated = equal >= KEPT && same >= PERIOD;
         if is_repeated && repeat(leaves, &mut symbols, place) {
             for cost in kept.iter_mut() {
@@ -259,10 +256,10 @@ fn choose(
             place -= KEPT;
             continue;
         }
-        place -= 1;
-        if place >= leaves.len() {
+        if place == 0 || place > leaves.len() {
             break;
         }
+        place -= 1;
         let leaf = leaves[place];
         let before = if next == Some(leaf) { equal } else { 0 };
         equal = before.saturating_add(1);

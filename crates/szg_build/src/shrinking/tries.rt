@@ -54,10 +54,8 @@ impl Best {
         Ok(true)
     }
 
-    /// Spells the leaves with a dictionary, and drops the pairs that the new text does not need. A symbol's cost is
-    /// `4 - quarters` quarters of the length of its word in the code chosen by the dictionary's counts, and `quarters`
-    /// quarters of the bits estimated from its count. None if more nodes would be visited than `limit` allows; then no
-    /// later call spells them either.
+    /// Spells the leaves with a dictionary, at the costs of `blended_costs`, and drops the pairs that the new text does not
+    /// need. None if more nodes would be visited than `limit` allows; then no later call spells them either.
     pub(crate) fn spelled(
         &mut self,
         alloc: Global,
@@ -70,21 +68,7 @@ impl Best {
             counts,
             ..
         } = dictionary;
-        let words = words_for(alloc, &counts, true)?;
-        let total = counts
-            .iter()
-            .fold(0u64, |sum, count| sum.saturating_add(*count));
-        let rest = 4u64.saturating_sub(quarters);
-        let mut costs = Vec::new(alloc);
-        for (count, length) in counts.iter().zip(&words) {
-            let word = u64::from(*length).saturating_mul(BIT);
-            // a word has at least one bit
-            let estimated = log2(total).saturating_sub(log2(*count)).max(BIT);
-            let blended = word
-                .saturating_mul(rest)
-                .saturating_add(estimated.saturating_mul(quarters));
-            costs.push(blended)?;
-        }
+        let costs = blended_costs(alloc, &counts, quarters)?;
         let Some(
             Spelling {
                 symbols,
@@ -111,4 +95,25 @@ impl Best {
         spelled.lens = needed.lens;
         Ok(Some(spelled))
     }
+}
+
+/// Returns what each symbol costs: `4 - quarters` quarters of the length of its word in the code chosen by the counts, and
+/// `quarters` quarters of the bits estimated from its count.
+fn blended_costs(alloc: Global, counts: &[u64], quarters: u64) -> Result<Vec<u64>, AllocError> {
+    let words = words_for(alloc, counts, true)?;
+    let total = counts
+        .iter()
+        .fold(0u64, |sum, count| sum.saturating_add(*count));
+    let rest = 4u64.saturating_sub(quarters);
+    let mut costs = Vec::new(alloc);
+    for (count, length) in counts.iter().zip(&words) {
+        let word = u64::from(*length).saturating_mul(BIT);
+        // a word has at least one bit
+        let estimated = log2(total).saturating_sub(log2(*count)).max(BIT);
+        let blended = word
+            .saturating_mul(rest)
+            .saturating_add(estimated.saturating_mul(quarters));
+        costs.push(blended)?;
+    }
+    Ok(costs)
 }
