@@ -15,7 +15,7 @@ ghost use Rattle.szg_file.specs.Held.{sparse_of, subtable_of};
 ghost use Rattle.szg_build.specs.Building.{IsExtended, IsMadeSub, IsPairing};
 ghost use Rattle.szg_build.specs.Rule.{HasSpanIndex, HasTruncatedBinary};
 
-use crate::building::blocks::{Filling, fill_blocks};
+use crate::building::blocks::fill_blocks;
 use crate::building::coding::choose_code;
 use crate::building::sparse::sparse_index;
 use crate::pairing::leaves::Paired;
@@ -82,27 +82,23 @@ pub(crate) fn build_paired(
     ensures rule { is_huffman ≡ false → IfOk result (λ sub. HasTruncatedBinary (subtable_of sub)) }
     ensures index { IfOk result (λ sub. HasSpanIndex (length values.now) (subtable_of sub)) }
 {
-    let Paired {
-        entries,
-        symbols,
-        ..
-    } = paired;
-    let dict = match Dict::new(alloc, entries) {
+    let dict = match Dict::new(alloc, paired.entries) {
         Ok(dict) => dict,
         Err(DictFault::Memory) => return Err(AllocError),
         Err(DictFault::Child(_)) => unreachable!(),
         Err(DictFault::Cycle(_)) => unreachable!(),
         Err(DictFault::LongSymbol(_)) => unreachable!(),
     };
-    let code = choose_code(alloc, &dict, &symbols, is_huffman)?;
-    let Filling {
-        mut lengths,
-        packed,
-        ..
-    } = fill_blocks(alloc, &code, &dict, &symbols, packing.block_bits)?;
-    let blocks = lengths.len() as u32;
-    let sparse = sparse_index(alloc, &lengths, values.len() as u64, packing.span_bits)?;
-    let extra = push_extra(&mut lengths, &sparse)?;
+    let code = choose_code(alloc, &dict, &paired.symbols, is_huffman)?;
+    let mut filled = fill_blocks(alloc, &code, &dict, &paired.symbols, packing.block_bits)?;
+    let blocks = filled.lengths.len() as u32;
+    let sparse = sparse_index(
+        alloc,
+        &filled.lengths,
+        values.len() as u64,
+        packing.span_bits,
+    )?;
+    let extra = push_extra(&mut filled.lengths, &sparse)?;
     Ok(Sub::Pairs {
         flags,
         block_bits: packing.block_bits,
@@ -112,7 +108,7 @@ pub(crate) fn build_paired(
         code,
         dict,
         sparse,
-        lengths,
-        packed,
+        lengths: filled.lengths,
+        packed: filled.packed,
     })
 }

@@ -16,10 +16,14 @@ mod table;
 mod watching;
 mod writing;
 
+ghost use Rattle.std.specs.Prelude.{◌≡◌};
+ghost use Rattle.szg_build.specs.declared.BuildFault.TheVariants.{Memory};
+
 pub use building::{Choice, Packing};
 pub use dump::{Dump, DumpFault, DumpReadFault};
 pub use reading::dumpreading::{read_dump, read_packed};
 pub use reading::packed_dump::PackedDump;
+use std::alloc::AllocError;
 use szg_file::{Map, PartBytes};
 use szg_values::{Kind, Material};
 pub use table::{build, build_as};
@@ -81,4 +85,12 @@ pub enum BuildFault {
     /// Memory was refused.
     #[error("Memory")]
     Memory,
+}
+
+impl From<AllocError> for BuildFault {
+    ghost from_gives = { λ _ fault. fault ≡ Memory };
+
+    fn from(_failed: AllocError) -> BuildFault {
+        BuildFault::Memory
+    }
 }

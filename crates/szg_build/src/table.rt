@@ -10,11 +10,11 @@ ghost use Rattle.szg_build.specs.Chosen.{IsBuiltAs, IsCodedTable};
 ghost use Rattle.szg_build.specs.Plan.{build_fault};
 ghost use Rattle.szg_build.specs.Rule.{byte4_for, constant_for, constant_in, HasSpanIndex, HasTruncatedBinary};
 ghost use Rattle.szg_build.specs.Shown.{plan_seen};
-ghost use Rattle.szg_build.specs.Tabling.{AreBuilt, AreMade, IsBuildable, IsBuiltBy, IsChoiceOf, IsInRange, IsOfBytes, IsOfItems, HasNoFault};
+ghost use Rattle.szg_build.specs.Tabling.{AreMade, IsBuiltBy, IsChoiceOf, IsOfBytes, IsOfItems, HasNoFault};
 ghost use Rattle.szg_build.specs.declared.building.Choice.{Choice};
 
 use crate::building::headers::count_other_bytes;
-use crate::building::subtables::build_sub;
+use crate::building::subtables::{build_sub, constant_byte};
 use crate::building::{Choice, Packing};
 use crate::copies::{copy_maps, copy_parts};
 use crate::refusing::first_fault;
@@ -77,7 +77,7 @@ fn byte4_of(material: &Material) -> u8
     }
 }
 
-/// Builds the subtables of lists of values.
+/// Builds the subtables of lists of values that are not refused.
 fn build_subs<V: Watcher>(
     alloc: Global,
     plan: &Plan,
@@ -85,20 +85,13 @@ fn build_subs<V: Watcher>(
     lists: &[&[u16]],
     watcher: &mut V,
 ) -> Result<Vec<Sub>, AllocError>
-    requires range { IsInRange (plan_seen plan.now) }
+    requires is_valid { HasNoFault (plan_seen plan.now) (map (λ list. list.now) lists.now) }
     requires choice { IsChoiceOf (plan_seen plan.now) choice }
-    requires lists { AllByRecursion (IsBuildable plan.now.kind) (map (λ list. list.now) lists.now) }
-    ensures { IfOk result (λ subs. AreBuilt choice (plan_seen plan.now) plan.now.flags.items (map (λ list. list.now) lists.now) (map subtable_of subs.items)) }
+    ensures { IfOk result (λ subs. AreMade choice (plan_seen plan.now) (map (λ list. list.now) lists.now) (map subtable_of subs.items)) }
 {
     let with_blocks = lists
         .iter()
-        .filter(|list| {
-            let constant = match plan.kind {
-                Kind::Wdl => list.first().copied().unwrap_or(0),
-                Kind::Dtz => 0,
-            };
-            list.iter().any(|value| *value != constant)
-        })
+        .filter(|list| constant_byte(plan.kind, list).is_none())
         .count();
     let other_bytes = count_other_bytes(plan, lists.len(), with_blocks);
     let mut subs = Vec::new(alloc);
@@ -138,24 +131,6 @@ pub(crate) fn table_from(alloc: Global, plan: &Plan, subs: Vec<Sub>) -> Result<T
     Ok(Table::assemble(fields))
 }
 
-/// Builds the table of a plan and lists that are not refused.
-fn build_table<V: Watcher>(
-    alloc: Global,
-    plan: &Plan,
-    choice: Choice,
-    lists: &[&[u16]],
-    watcher: &mut V,
-) -> Result<Table, AllocError>
-    requires is_valid { HasNoFault (plan_seen plan.now) (map (λ list. list.now) lists.now) }
-    requires choice { IsChoiceOf (plan_seen plan.now) choice }
-    ensures built { IfOk result (λ t. IsBuiltBy choice (plan_seen plan.now) (map (λ list. list.now) lists.now) t.contents) }
-    ensures accepted { IfOk result (λ t. IsAccepted t.contents t.filled) }
-    ensures padding { IfOk result (λ t. AllByRecursion (λ byte. byte ≡ 0) t.filled) }
-{
-    let subs = build_subs(alloc, plan, choice, lists, watcher)?;
-    table_from(alloc, plan, subs)
-}
-
 /// Builds the table of a plan and lists, packed by `choice`. Errors: the first fault of the plan and lists.
 pub(crate) fn build_by<V: Watcher>(
     alloc: Global,
@@ -179,10 +154,8 @@ pub(crate) fn build_by<V: Watcher>(
     if let Some(fault) = first_fault(plan, sizes.as_slice(), lists) {
         return Err(fault);
     }
-    match build_table(alloc, plan, choice, lists, watcher) {
-        Ok(table) => Ok(table),
-        Err(_failed) => Err(BuildFault::Memory),
-    }
+    let subs = build_subs(alloc, plan, choice, lists, watcher)?;
+    Ok(table_from(alloc, plan, subs)?)
 }
 
 /// Builds a table from a plan and the values of its subtables, which are listed in file order.

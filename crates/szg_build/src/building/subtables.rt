@@ -22,10 +22,9 @@ pub(crate) const CONSTANT: u8 = 128;
 /// Returns the byte of the constant subtable for a list; 0 for an empty list. A list makes a constant subtable in WDL
 /// if all its values are equal and below 256, in DTZ if all its values are 0. None for any other list.
 pub(crate) fn constant_byte(kind: Kind, values: &[u16]) -> Option<u8>
-    requires small { AllByRecursion (λ v. v ≤ greatest_value kind) values.now }
     ensures same { IfSome result (λ byte. values.now ≡ replicate (length values.now) (constant_value kind byte)) }
     ensures some { IfNone result (0 < length values.now) }
-    ensures rule { result ≡ constant_for kind values.now }
+    ensures rule { AllByRecursion (λ v. v ≤ greatest_value kind) values.now → result ≡ constant_for kind values.now }
 {
     let constant = match kind {
         Kind::Wdl => values.first().copied().unwrap_or(0),

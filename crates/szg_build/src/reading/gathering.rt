@@ -1,7 +1,7 @@
 //! The content of a dump while it is read: the first subtables are packed, the others are lists.
 ghost use Rattle.std.specs.Prelude.{◌≡◌, ◌<◌, [], ◌∷◌, ◌++◌, map, IfOk, OnOk};
 ghost use Rattle.std.specs.List.{AllByRecursion};
-ghost use Rattle.szg_build.specs.Packed.{flags_in, gathered_dump, lists_held, lists_in, packed_values, values_held, ArePacked, IsAdded, IsPackedSub};
+ghost use Rattle.szg_build.specs.Packed.{gathered_dump, lists_held, lists_in, values_held, ArePacked, IsAdded, IsPackedSub};
 ghost use Rattle.szg_build.specs.Shown.{dump_seen};
 ghost use Rattle.szg_build.specs.Wholes.{only_in_dtz};
 ghost use Rattle.szg_build.specs.declared.building.Choice.{Choice};
@@ -41,16 +41,6 @@ pub(crate) struct Subs {
 pub(crate) struct Gathered {
     pub header: Header,
     pub subs: Subs,
-}
-
-/// Returns the flags of a subtable; 0 in WDL.
-fn plan_flags(kind: Kind, flags: u8) -> u8
-    ensures { result ≡ flags_in kind flags }
-{
-    match kind {
-        Kind::Wdl => 0,
-        Kind::Dtz => flags,
-    }
 }
 
 /// Adds the values of a subtable with these flags. If all earlier subtables are packed, `pack_equal` and then
@@ -105,16 +95,15 @@ pub(crate) fn add_sub<V: Watcher>(
     ensures packed { OnOk result (ArePacked kind choice subs.new) }
 {
     let SubText { flags, map, values } = sub;
-    let own = plan_flags(kind, flags);
-    add_values(alloc, kind, choice, own, count, values, subs, watcher)?;
     match kind {
-        Kind::Wdl => {}
+        Kind::Wdl => add_values(alloc, kind, choice, 0, count, values, subs, watcher),
         Kind::Dtz => {
+            add_values(alloc, kind, choice, flags, count, values, subs, watcher)?;
             subs.flags.push(flags)?;
             subs.maps.push(map)?;
+            Ok(())
         }
     }
-    Ok(())
 }
 
 /// Lists the values of all subtables.
@@ -142,20 +131,15 @@ pub(crate) fn list_dump(alloc: Global, gathered: Gathered) -> Result<Dump, Alloc
     ensures { IfOk result (λ dump. dump_seen dump ≡ gathered_dump gathered) }
 {
     let Gathered { header, subs } = gathered;
-    let Subs {
-        flags,
-        maps,
-        packed,
-        rest,
-    } = subs;
     let last = header.last;
-    let lists = list_all(alloc, header.kind, &packed, rest)?;
+    let rest = subs.rest;
+    let lists = list_all(alloc, header.kind, &subs.packed, rest)?;
     Ok(Dump {
         material: header.material,
         kind: header.kind,
         parts: header.parts,
-        flags,
-        maps,
+        flags: subs.flags,
+        maps: subs.maps,
         last,
         lists,
     })

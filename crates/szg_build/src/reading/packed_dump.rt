@@ -12,7 +12,7 @@ ghost use Rattle.szg_build.specs.declared.building.Choice.{Choice};
 
 use crate::building::headers::count_other_bytes;
 use crate::building::{Choice, Packing};
-use crate::reading::gathering::{Gathered, Subs, list_all};
+use crate::reading::gathering::{Gathered, list_all};
 use crate::reading::packing::{PackedSub, pack, unpack};
 use crate::refusing::{MAX_ROUNDS, are_bits_valid, are_maps_valid};
 use crate::table::{build_by, parts_fit, table_from};
@@ -205,12 +205,8 @@ fn build_lists<V: Watcher>(
     ensures accepted { IfOk result (λ t. IsAccepted t.contents t.filled) }
     ensures padding { IfOk result (λ t. AllByRecursion (λ byte. byte ≡ 0) t.filled) }
 {
-    let Ok(lists) = list_all(alloc, plan.kind, packed, rest) else {
-        return Err(BuildFault::Memory);
-    };
-    let Ok(lent) = lend(alloc, &lists) else {
-        return Err(BuildFault::Memory);
-    };
+    let lists = list_all(alloc, plan.kind, packed, rest)?;
+    let lent = lend(alloc, &lists)?;
     build_by(alloc, plan, choice, &lent, watcher)
 }
 
@@ -245,14 +241,9 @@ fn build_gathered<V: Watcher>(
     ensures padding { IfOk result (λ t. AllByRecursion (λ byte. byte ≡ 0) t.filled) }
 {
     let Gathered { header, subs } = gathered;
-    let Subs {
-        flags,
-        maps,
-        packed,
-        rest,
-    } = subs;
     let numbers = numbers_of(choice);
     let last = header.last;
+    let rest = subs.rest;
     let plan = Plan {
         material: header.material,
         kind: header.kind,
@@ -260,15 +251,12 @@ fn build_gathered<V: Watcher>(
         block_bits: numbers.block_bits,
         span_bits: numbers.span_bits,
         rounds: numbers.rounds,
-        flags,
-        maps,
+        flags: subs.flags,
+        maps: subs.maps,
         last,
     };
-    if rest.is_empty() && are_complete(&plan, &packed) {
-        return match assemble(alloc, &plan, choice, packed, watcher) {
-            Ok(table) => Ok(table),
-            Err(_failed) => Err(BuildFault::Memory),
-        };
+    if rest.is_empty() && are_complete(&plan, &subs.packed) {
+        return Ok(assemble(alloc, &plan, choice, subs.packed, watcher)?);
     }
-    build_lists(alloc, &plan, choice, &packed, rest, watcher)
+    build_lists(alloc, &plan, choice, &subs.packed, rest, watcher)
 }

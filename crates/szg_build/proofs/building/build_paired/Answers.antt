@@ -50,14 +50,13 @@ pub sparse_index-requires-clause-total : goal.sparse_index-requires-clause-total
 sparse_index-requires-clause-total c =
     let round = c.requires.pairing.round in
     let ss : List ℕ = c.deref-2.result.now in
-    let own : c.in_ok-lengths.lengths.items ≡ c.in_ok-lengths.field-0.lengths.items = first_of (rw c.in_ok-lengths.lengths-is, cc, search rules) in
     let e1 : c.in-Ok.dict ≡ c.args.paired.entries.items = c.in-Ok.ensures.accepted.0 in
     let e2 : ss ≡ c.args.paired.symbols.items = c.deref-2.ensures.value in
     let same : values_of c.in-Ok.dict ss ≡ c.args.values.now = ap (λ (z : List (List ℕ)). values_of z ss) e1 ∙ ap (values_of c.args.paired.entries.items) e2 ∙ round.same in
-    let lengths : c.deref-3.result.now ≡ c.in_ok-lengths.field-0.lengths.items = first_of (cc (c.deref-3.ensures.value), cc (c.deref-3.ensures.value, own)) in
+    let lengths : c.deref-3.result.now ≡ c.in_ok-filled.filled.lengths.items = c.deref-3.ensures.value in
     subst (λ (z : List ℕ). start z (length z) ≡ length c.args.values.now) (sym lengths)
-    (cut_total c.in_ok-code.code c.in-Ok.dict c.args.packing.block_bits c.args.values.now ss (length c.in_ok-lengths.field-0.lengths.items)
-    c.in_ok-lengths.field-0.lengths.items c.in_ok-lengths.field-0.packed.items c.in_ok-lengths.ensures same)
+    (cut_total c.in_ok-code.code c.in-Ok.dict c.args.packing.block_bits c.args.values.now ss (length c.in_ok-filled.filled.lengths.items)
+    c.in_ok-filled.filled.lengths.items c.in_ok-filled.filled.packed.items c.in_ok-filled.ensures same)
 
 pub sparse_index-requires-clause-some : goal.sparse_index-requires-clause-some
 sparse_index-requires-clause-some c = cut_some c.deref-3.result.now (length c.args.values.now) (sparse_index-requires-clause-total c) c.requires.some
@@ -66,12 +65,12 @@ pub returns-clause-index : goal.returns-clause-index
 returns-clause-index c =
     let round = c.requires.pairing.round in
     let ss : List ℕ = c.deref-2.result.now in
-    let own : List ℕ = c.in_ok-lengths.field-0.lengths.items in
+    let own : List ℕ = c.in_ok-filled.filled.lengths.items in
     let e1 : c.in-Ok.dict ≡ c.args.paired.entries.items = c.in-Ok.ensures.accepted.0 in
     let e2 : ss ≡ c.args.paired.symbols.items = c.deref-2.ensures.value in
     let same : values_of c.in-Ok.dict ss ≡ c.args.values.now = ap (λ (z : List (List ℕ)). values_of z ss) e1 ∙ ap (values_of c.args.paired.entries.items) e2 ∙ round.same in
     let total : start own (length own) ≡ length c.args.values.now =
-    cut_total c.in_ok-code.code c.in-Ok.dict c.args.packing.block_bits c.args.values.now ss (length own) own c.in_ok-lengths.field-0.packed.items c.in_ok-lengths.ensures same in
+    cut_total c.in_ok-code.code c.in-Ok.dict c.args.packing.block_bits c.args.values.now ss (length own) own c.in_ok-filled.filled.packed.items c.in_ok-filled.ensures same in
     let head : Head = record {
       flags = c.args.flags;
       block_bits = c.args.packing.block_bits;
@@ -81,7 +80,7 @@ returns-clause-index c =
       code = c.in_ok-code.code;
       entries = c.in-Ok.dict;
     } in
-    let blocks : c.len-blocks.result ≡ length own = first_of (omega (arith, c.len-blocks.ensures, c.deref-3.ensures.len, ap length c.deref-3.ensures.value), omega (arith, c.len-blocks.ensures, c.in_ok-lengths.field-0.lengths.ok), search rules) in
+    let blocks : c.len-blocks.result ≡ length own = first_of (omega (arith, c.len-blocks.ensures, c.deref-3.ensures.len, ap length c.deref-3.ensures.value), omega (arith, c.len-blocks.ensures, c.in_ok-filled.filled.lengths.ok), search rules) in
     index_is head (map sparse_of c.in_ok-sparse.sparse.items) own c.push_extra.new.lengths.items (length c.args.values.now)
     (subst (λ (z : List ℕ). IsIndexOf z c.args.packing.span_bits (map sparse_of c.in_ok-sparse.sparse.items)) c.deref-3.ensures.value c.in_ok-sparse.ensures.index)
     (length-map c.in_ok-sparse.sparse.items sparse_of ∙ c.in_ok-sparse.ensures.count) total c.requires.some blocks

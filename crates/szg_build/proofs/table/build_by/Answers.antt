@@ -1,5 +1,6 @@
 use Rattle.std.proofs.Common.{◌<◌, ◌^◌, List, ℕ, map, refl, sym, subst, ◌∙◌, Ok, Err}
 use Rattle.std.specs.List.{AllByRecursion}
+use Rattle.std.proofs.lemmas.Result.{err_from_is_err_and}
 use Rattle.szg_build.specs.declared.BuildFault.TheVariants as fault
 use Rattle.szg_build.specs.Plan.{build_fault}
 use Rattle.szg_build.specs.Shown.{plan_seen}
@@ -22,8 +23,8 @@ returns-in-Some-first_fault-clause-refused g c =
     refused_as (Err c.in-Some-first_fault.fault) (build_fault plan lists) c.in-Some-first_fault.fault
     (valid_as plan lists c.as_slice.result.now c.deref-2.result.now c.args.plan.now.parts.items c.deref-2.ensures.value refl c.in-Some.ensures.parts same ∙ sym c.in-Some-first_fault.ensures) refl
 
-pub build_table-requires-clause-is_valid : goal.build_table-requires-clause-is_valid
-build_table-requires-clause-is_valid g c =
+pub build_subs-requires-clause-is_valid : goal.build_subs-requires-clause-is_valid
+build_subs-requires-clause-is_valid g c =
     let plan = plan_seen c.args.plan.now in
     let lists = map (λ list. list.now) c.args.lists.now in
     let parts = parts_as c.args.plan.now.material c.args.plan.now.kind c.deref-2.result.now c.args.plan.now.parts.items c.deref-2.ensures.value c.in-Some.ensures.parts in
@@ -31,20 +32,37 @@ build_table-requires-clause-is_valid g c =
     all_are_valid plan lists c.as_slice.result.now parts same (subst (λ (z : List ℕ). AllByRecursion (λ size. size < 2 ^ 33) z) (sym c.as_slice.ensures.value) c.in-Some.ensures.fits)
     (sym c.first_fault.ensures ∙ no_fault c.first_fault.result c.in_default-first_fault.not-Some)
 
-pub returns-in-Ok-clause-refused : goal.returns-in-Ok-clause-refused
-returns-in-Ok-clause-refused g c =
+pub table_from-requires : goal.table_from-requires
+table_from-requires g c = (c.args.choice, map (λ list. list.now) c.args.lists.now, c.in_ok-subs.ensures)
+
+pub returns-in_err-subs-clause-refused : goal.returns-in_err-subs-clause-refused
+returns-in_err-subs-clause-refused g c =
+    let p = err_from_is_err_and c.from_residual.result c.from_residual.ensures.1 in
     let plan = plan_seen c.args.plan.now in
     let lists = map (λ list. list.now) c.args.lists.now in
     let same = c.as_slice.ensures.value ∙ c.in-Some.ensures.sizes in
-    passed_as (Ok c.in-Ok.table) (build_fault plan lists)
+    rw (p.1, p.2) (passed_as (Err fault.Memory) (build_fault plan lists)
+    (valid_as plan lists c.as_slice.result.now c.deref-2.result.now c.args.plan.now.parts.items c.deref-2.ensures.value refl c.in-Some.ensures.parts same
+    ∙ sym c.first_fault.ensures ∙ no_fault c.first_fault.result c.in_default-first_fault.not-Some) refl)
+
+pub returns-in_err-table_from-clause-refused : goal.returns-in_err-table_from-clause-refused
+returns-in_err-table_from-clause-refused g c =
+    let p = err_from_is_err_and c.from_residual-in_err-table_from.result c.from_residual-in_err-table_from.ensures.1 in
+    let plan = plan_seen c.args.plan.now in
+    let lists = map (λ list. list.now) c.args.lists.now in
+    let same = c.as_slice.ensures.value ∙ c.in-Some.ensures.sizes in
+    rw (p.1, p.2) (passed_as (Err fault.Memory) (build_fault plan lists)
+    (valid_as plan lists c.as_slice.result.now c.deref-2.result.now c.args.plan.now.parts.items c.deref-2.ensures.value refl c.in-Some.ensures.parts same
+    ∙ sym c.first_fault.ensures ∙ no_fault c.first_fault.result c.in_default-first_fault.not-Some) refl)
+
+pub returns-clause-refused : goal.returns-clause-refused
+returns-clause-refused g c =
+    let plan = plan_seen c.args.plan.now in
+    let lists = map (λ list. list.now) c.args.lists.now in
+    let same = c.as_slice.ensures.value ∙ c.in-Some.ensures.sizes in
+    passed_as (Ok c.in_ok-table_from.field-0) (build_fault plan lists)
     (valid_as plan lists c.as_slice.result.now c.deref-2.result.now c.args.plan.now.parts.items c.deref-2.ensures.value refl c.in-Some.ensures.parts same
     ∙ sym c.first_fault.ensures ∙ no_fault c.first_fault.result c.in_default-first_fault.not-Some) tt
 
-pub returns-in-Err-clause-refused : goal.returns-in-Err-clause-refused
-returns-in-Err-clause-refused g c =
-    let plan = plan_seen c.args.plan.now in
-    let lists = map (λ list. list.now) c.args.lists.now in
-    let same = c.as_slice.ensures.value ∙ c.in-Some.ensures.sizes in
-    passed_as (Err fault.Memory) (build_fault plan lists)
-    (valid_as plan lists c.as_slice.result.now c.deref-2.result.now c.args.plan.now.parts.items c.deref-2.ensures.value refl c.in-Some.ensures.parts same
-    ∙ sym c.first_fault.ensures ∙ no_fault c.first_fault.result c.in_default-first_fault.not-Some) refl
+pub returns-clause-built : goal.returns-clause-built
+returns-clause-built g c = c.in_ok-table_from.ensures.built c.args.choice (map (λ list. list.now) c.args.lists.now) c.in_ok-subs.ensures

@@ -11,22 +11,22 @@ use Rattle.szg_build.proofs.table.build_subs.Goals as goal
 pub build_sub-requires-clause-flags : goal.build_sub-requires-clause-flags
 build_sub-requires-clause-flags g c =
     let flags : c.unwrap_or-flags.result ≡ get_or c.args.plan.now.flags.items c.lists.n 0 = search rules in
-    omega (arith, flags, flag_at c.args.plan.now.flags.items c.lists.n c.requires.range.flags)
+    omega (arith, flags, flag_at c.args.plan.now.flags.items c.lists.n c.requires.is_valid.range.flags)
 
 pub build_sub-requires-clause-few : goal.build_sub-requires-clause-few
 build_sub-requires-clause-few g c =
-    (lent_at (IsBuildable c.args.plan.now.kind) (λ list. list.now) c.args.lists.now c.lists.n _ c.lists-test.true c.requires.lists).few
+    (lent_at (IsBuildable c.args.plan.now.kind) (λ list. list.now) c.args.lists.now c.lists.n _ c.lists-test.true c.requires.is_valid.each).few
 
 pub build_sub-requires-clause-small : goal.build_sub-requires-clause-small
 build_sub-requires-clause-small g c =
-    (lent_at (IsBuildable c.args.plan.now.kind) (λ list. list.now) c.args.lists.now c.lists.n _ c.lists-test.true c.requires.lists).small
+    (lent_at (IsBuildable c.args.plan.now.kind) (λ list. list.now) c.args.lists.now c.lists.n _ c.lists-test.true c.requires.is_valid.each).small
 
 pub build_sub-requires-clause-different : goal.build_sub-requires-clause-different
 build_sub-requires-clause-different g c =
-    (lent_at (IsBuildable c.args.plan.now.kind) (λ list. list.now) c.args.lists.now c.lists.n _ c.lists-test.true c.requires.lists).different
+    (lent_at (IsBuildable c.args.plan.now.kind) (λ list. list.now) c.args.lists.now c.lists.n _ c.lists-test.true c.requires.is_valid.each).different
 
 pub build_sub-requires-clause-choice : goal.build_sub-requires-clause-choice
-build_sub-requires-clause-choice g c = choice_in_bounds (plan_seen c.args.plan.now) c.args.choice c.requires.range c.requires.choice
+build_sub-requires-clause-choice g c = choice_in_bounds (plan_seen c.args.plan.now) c.args.choice c.requires.is_valid.range c.requires.choice
 
 pub lists-preserved : goal.lists-preserved
 lists-preserved g c =
@@ -38,6 +38,8 @@ lists-preserved g c =
     c.lists-test.true c.lists.invariant flags c.in_ok-sub.ensures)
 
 pub returns : goal.returns
-returns g c =
-    subst (λ z. AreBuilt c.args.choice (plan_seen c.args.plan.now) c.args.plan.now.flags.items (map (λ list. list.now) z) (map subtable_of c.lists.subs.items))
-    (take_all c.lists.n c.args.lists.now (omega arith)) c.lists.invariant
+returns g c = record {
+  is_valid = c.requires.is_valid;
+  built = subst (λ z. AreBuilt c.args.choice (plan_seen c.args.plan.now) c.args.plan.now.flags.items (map (λ list. list.now) z) (map subtable_of c.lists.subs.items))
+      (take_all c.lists.n c.args.lists.now (omega arith)) c.lists.invariant;
+}

@@ -10,7 +10,7 @@ returns-in_ok-paired-in-Fixed g c =
     (λ sub h. built_as c.args.kind c.args.flags c.args.values.now c.args.choice (Fixed c.in-Fixed.packing) (subtable_of sub) c.in-Fixed.is
     (made_is_built c.args.kind c.args.flags c.args.values.now c.in-Fixed.packing (subtable_of sub) h.0
     (omega (arith, c.requires.flags)) (bounds_as c.args.choice (Fixed c.in-Fixed.packing) c.in-Fixed.is c.requires.choice)
-    (sym c.constant_byte.ensures.rule ∙ none_of c.constant_byte.result c.in_default.not-Some) h.1.0 h.1.1))
+    (sym (c.constant_byte.ensures.rule c.requires.small) ∙ none_of c.constant_byte.result c.in_default.not-Some) h.1.0 h.1.1))
     (both_ok _ _ c.build_paired.result c.build_paired.ensures.made (both_ok _ _ c.build_paired.result (c.build_paired.ensures.rule refl) c.build_paired.ensures.index))
 
 pub returns-in_ok-sizes-in-Small : goal.returns-in_ok-sizes-in-Small
@@ -29,5 +29,5 @@ returns-in_ok-sizes-in-Small g c =
       most_span = sizes.ensures.most_span;
       made = h.0;
     })
-    (omega (arith, c.requires.flags)) (sym c.constant_byte.ensures.rule ∙ none_of c.constant_byte.result c.in_default.not-Some) h.1))
+    (omega (arith, c.requires.flags)) (sym (c.constant_byte.ensures.rule c.requires.small) ∙ none_of c.constant_byte.result c.in_default.not-Some) h.1))
     (both_ok _ _ c.build_paired-in-Small.result c.build_paired-in-Small.ensures.made c.build_paired-in-Small.ensures.index)

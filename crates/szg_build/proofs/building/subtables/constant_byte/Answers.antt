@@ -10,7 +10,7 @@ use Rattle.szg_build.proofs.building.subtables.constant_byte.Goals as goal
 use Rattle.szg_build.proofs.building.subtables.constant_byte.Goals.{in-Wdl, in-Dtz}
 
 pub returns-then-all-clause-rule : goal.returns-then-all-clause-rule
-returns-then-all-clause-rule c =
+returns-then-all-clause-rule c = λ _.
     let values = c.args.values.now in
     let one : ℕ = c.match-kind.constant in
     let all : list_all (λ value. value == one) values ≡ true =
