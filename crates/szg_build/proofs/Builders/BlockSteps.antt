@@ -1,7 +1,7 @@
 -- The steps of filling blocks: one more word, one more whole block, all blocks.
-use Rattle.std.proofs.Common.{ℕ, suc, ◌≡◌, ◌+◌, ◌-◌, ◌*◌, ◌%◌, ◌^◌, ◌<◌, ◌≤◌, Bool, List, [], ◌∷◌, ◌++◌, length, replicate, take, get_or, refl, sym, ap, subst, ◌∙◌, arith, inl, inr, length-append, append_assoc, append-nil}
+use Rattle.std.proofs.Common.{ℕ, ◌≡◌, ◌+◌, ◌-◌, ◌*◌, ◌%◌, ◌^◌, ◌<◌, ◌≤◌, Bool, List, [], ◌∷◌, ◌++◌, length, replicate, take, refl, sym, ap, subst, ◌∙◌, arith, inl, inr, length-append, append_assoc, append-nil}
 use Rattle.std.specs.Prelude.{◌⊎◌}
-use Rattle.std.specs.List.{concat, AllByRecursion}
+use Rattle.std.specs.List.{concat}
 use Rattle.std.proofs.Math.Nat.{pow-le-pow_right}
 use Rattle.std.proofs.lemmas.List.{length-replicate, take_all}
 use Rattle.std.proofs.lemmas.Grind.{flat_map-append}
@@ -174,8 +174,3 @@ filling_is code entries b symbols lengths lengths' packed packed' words words' v
     (subst (λ (z : List ℕ). IsFilling code entries b symbols lengths z words' values') (sym e2)
     (subst (λ (z : List Bool). IsFilling code entries b symbols lengths packed z values') (sym e3)
     (subst (λ (z : ℕ). IsFilling code entries b symbols lengths packed words z) (sym e4) h)))
-
--- if each item is below a bound, all items are
-pub all_fit : (bound : ℕ) (xs : List ℕ) → ((k : ℕ) → get_or xs k 0 < bound) → AllByRecursion (λ n. n < bound) xs
-all_fit bound [] h = tt
-all_fit bound (x ∷ xs) h = (h 0, all_fit bound xs (λ k. h (suc k)))

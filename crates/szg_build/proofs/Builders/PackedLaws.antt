@@ -1,9 +1,9 @@
 -- Subtables of a dump that are packed while it is read.
-use Rattle.std.proofs.Common.{◌≡◌, ℕ, zero, suc, ◌+◌, ◌<◌, ◌≤◌, ◌^◌, Bool, true, false, List, [], ◌∷◌, ◌++◌, length, map, replicate, refl, sym, ap, subst, ◌∙◌, append_assoc, append-nil, arith, inl, inr, Some, None}
+use Rattle.std.proofs.Common.{◌≡◌, ℕ, zero, suc, ◌+◌, ◌<◌, ◌≤◌, ◌^◌, Bool, true, false, List, [], ◌∷◌, ◌++◌, length, map, replicate, refl, sym, ap, subst, ◌∙◌, append-nil, arith, Some, None}
 use Rattle.std.specs.Prelude.{◌==◌, nat_le, if◌then◌else◌}
 use Rattle.std.specs.List.{AllByRecursion, list_any}
 use Rattle.std.proofs.lemmas.Bool.{eqb-true, false_from_ne_true, leb-true}
-use Rattle.std.proofs.lemmas.List.{length-append, length-map, length-replicate, map-append}
+use Rattle.std.proofs.lemmas.List.{length-replicate}
 use Rattle.szg_values.specs.declared.Kind.{Kind}
 use Rattle.szg_values.specs.declared.Kind.TheVariants.{Wdl, Dtz}
 use Rattle.szg_block.specs.Subtable.{packed_of, IsShaped, IsSoundOver}
@@ -25,8 +25,7 @@ use Rattle.szg_build.specs.Plan.{Plan, different_values, greatest_value, has_map
 use Rattle.szg_build.specs.Building.{IsBuiltSub, IsCodedBy}
 use Rattle.szg_build.specs.Rule.{constant_for}
 use Rattle.szg_build.specs.Tabling.{AreBuilt, AreMade, IsBuildable, IsBuiltBy, IsChoiceOf, HasNoFault}
-use Rattle.szg_build.specs.Packed.{flags_in, gathered_dump, lists_in, packed_values, AreFlagsOf, ArePacked, IsAdded, IsPackedAs, IsPackedSub, IsSettled}
-use Rattle.szg_build.specs.Wholes.{only_in_dtz}
+use Rattle.szg_build.specs.Packed.{gathered_dump, lists_in, packed_values, AreFlagsOf, ArePacked, IsPackedAs, IsPackedSub, IsSettled}
 use Rattle.szg_build.proofs.Pairs.LeafLaws.{values_below-few, values_below-missing}
 use Rattle.szg_build.proofs.Builders.RefusalLaws.{bits_parsed}
 use Rattle.szg_build.proofs.Builders.SubLaws.{replicated_all}
@@ -109,60 +108,6 @@ run_is_built kind choice flags byte value count small fits same rule = record {
 }
 
 -- ---- a subtable is added
-
-all_on : {A : Type 0} (P : A → Type 0) (xs : List A) (x : A) → AllByRecursion P xs → P x → AllByRecursion P (xs ++ x ∷ [])
-all_on P [] x h k = (k, tt)
-all_on P (y ∷ xs) x h k = (h.0, all_on P xs x h.1 k)
-
-flags_on : (kind : Kind) (old : List PackedSub) (packed : PackedSub) (flags : ℕ) (before : List ℕ) → packed.flags ≡ flags_in kind flags → AreFlagsOf kind old before → AreFlagsOf kind (old ++ packed ∷ []) (before ++ only_in_dtz kind flags)
-flags_on Wdl old packed flags before same h = (append-nil before ∙ h.0, all_on (λ p. p.flags ≡ 0) old packed h.1 same)
-flags_on Dtz old packed flags before same h =
-    ap (λ (z : List ℕ). z ++ flags ∷ []) h ∙ ap (λ (f : ℕ). map (λ p. p.flags) old ++ f ∷ []) (sym same) ∙ sym (map-append (λ p. p.flags) old (packed ∷ []))
-
--- the lists of subtables are one more
-pub added_lists : (kind : Kind) (choice : Choice) (flags : ℕ) (values : List ℕ) (old mid new : Subs) → IsAdded kind choice flags values old mid → new.packed ≡ mid.packed → new.rest ≡ mid.rest →
-    lists_in kind new ≡ lists_in kind old ++ values ∷ []
-added_lists kind choice flags values old mid new h e e' =
-    elim h.added [
-      | inl p ↦
-          let none = ap (map (λ list. list.items)) p.first in
-          let packed : new.packed.items ≡ old.packed.items ++ p.packed ∷ [] = ap (λ z. z.items) e ∙ p.more in
-          let rest : map (λ list. list.items) new.rest.items ≡ [] = ap (λ z. map (λ list. list.items) z.items) (e' ∙ p.rest) ∙ none in
-          ap (λ (z : List (List ℕ)). map (packed_values kind) new.packed.items ++ z) rest ∙ append-nil (map (packed_values kind) new.packed.items)
-          ∙ ap (map (packed_values kind)) packed ∙ map-append (packed_values kind) old.packed.items (p.packed ∷ [])
-          ∙ ap (λ (z : List ℕ). map (packed_values kind) old.packed.items ++ z ∷ []) p.good.valued
-          ∙ ap (λ (z : List (List ℕ)). z ++ values ∷ []) (sym (ap (λ (z : List (List ℕ)). map (packed_values kind) old.packed.items ++ z) none ∙ append-nil (map (packed_values kind) old.packed.items)))
-      | inr l ↦
-          ap (λ z. map (packed_values kind) z.items ++ map (λ list. list.items) new.rest.items) (e ∙ l.packed)
-          ∙ ap (λ z. map (packed_values kind) old.packed.items ++ map (λ list. list.items) z.items) e'
-          ∙ ap (λ (z : List (List ℕ)). map (packed_values kind) old.packed.items ++ z) l.more
-          ∙ sym (append_assoc (map (packed_values kind) old.packed.items) (map (λ list. list.items) old.rest.items) (values ∷ []))
-    ]
-
--- they are still packed as chosen
-pub added_packed : (kind : Kind) (choice : Choice) (flags : ℕ) (values : List ℕ) (old mid new : Subs) → IsAdded kind choice (flags_in kind flags) values old mid → new.packed ≡ mid.packed → new.rest ≡ mid.rest →
-    new.flags.items ≡ old.flags.items ++ only_in_dtz kind flags → ArePacked kind choice old → ArePacked kind choice new
-added_packed kind choice flags values old mid new h e e' e'' are =
-    elim h.added [
-      | inl p ↦
-          let packed : new.packed.items ≡ old.packed.items ++ p.packed ∷ [] = ap (λ z. z.items) e ∙ p.more in
-          record {
-            each = subst (λ (z : List PackedSub). AllByRecursion (IsPackedSub kind choice) z) (sym packed) (all_on (IsPackedSub kind choice) old.packed.items p.packed are.each p.good.good);
-            flags = λ none. subst (λ (z : List PackedSub). AreFlagsOf kind z new.flags.items) (sym packed)
-                (subst (λ (z : List ℕ). AreFlagsOf kind (old.packed.items ++ p.packed ∷ []) z) (sym e'') (flags_on kind old.packed.items p.packed flags old.flags.items p.good.flagged (are.flags p.first)));
-          }
-      | inr l ↦ record {
-        each = subst (λ z. AllByRecursion (IsPackedSub kind choice) z.items) (sym (e ∙ l.packed)) are.each;
-        flags = λ none. absurd (omega (
-          arith,
-          ap (λ z. length z.items) (sym e'),
-          ap length none,
-          ap length l.more,
-          length-append (map (λ list. list.items) old.rest.items) (values ∷ []),
-          length-map mid.rest.items (λ list. list.items),
-        ));
-      }
-    ]
 
 -- none yet
 pub none_packed : (kind : Kind) (choice : Choice) (subs : Subs) → subs.flags.items ≡ [] → subs.packed.items ≡ [] → ArePacked kind choice subs

@@ -1,7 +1,7 @@
 -- The bits of words: whole bytes, and bits that are not bytes yet.
 use Rattle.std.proofs.Common.{ℕ, ◌≡◌, ◌+◌, ◌-◌, ◌*◌, ◌/◌, ◌%◌, ◌^◌, ◌<◌, ◌≤◌, Bool, false, List, [], ◌++◌, length, replicate, refl, sym, ap, subst, ◌∙◌, arith, length-append, append_assoc, append-nil}
 use Rattle.std.specs.Int.{bytes_high_first}
-use Rattle.std.proofs.Math.Nat.{mul-le-mul_right, pow-le-pow_right, div-lt_iff_lt-mul}
+use Rattle.std.proofs.Math.Nat.{mul-le-mul_right, div-lt_iff_lt-mul}
 use Rattle.std.proofs.lemmas.Nat.{pow-add, pow_pos, shl_whole, shl_below}
 use Rattle.szg_code.specs.Bits.{bits, bits_of_number}
 use Rattle.szg_code.proofs.Numbers.{length-bits_of_number, bits_of_number-split, bits_of_number-mod, bits_of_number-join, bits_of_number-zeros}
@@ -28,12 +28,6 @@ joined_below count waiting length number small spelled =
     let m : (waiting + 1) * 2 ^ length ≤ 2 ^ count * 2 ^ length = mul-le-mul_right {m = waiting + 1} {n = 2 ^ count} (2 ^ length) (omega (arith, small)) in
     let d : (waiting + 1) * 2 ^ length ≡ waiting * 2 ^ length + 2 ^ length = omega arith in
     omega (arith, p, m, d, spelled)
-
-pub joined_fits : (count waiting length number : ℕ) → count < 32 → length ≤ 32 → waiting < 2 ^ count → number < 2 ^ length → waiting * 2 ^ length + number < 2 ^ 63
-joined_fits count waiting length number few short small spelled =
-    let b = joined_below count waiting length number small spelled in
-    let e : 2 ^ (count + length) ≤ 2 ^ 63 = pow-le-pow_right {n = 2} (omega arith) {i = count + length} {j = 63} (omega (arith, few, short)) in
-    omega (arith, b, e)
 
 pub shifted : (count waiting length : ℕ) → count < 32 → length ≤ 32 → waiting < 2 ^ count → waiting * 2 ^ length % 18446744073709551616 ≡ waiting * 2 ^ length
 shifted count waiting length few short small = shl_whole waiting count length 64 small (omega (arith, few, short))
@@ -156,8 +150,3 @@ block_holds b long n least fits is =
     let p : 2 ^ (5 + (b - 5)) ≡ 2 ^ 5 * 2 ^ (b - 5) = pow-add 2 5 (b - 5) in
     let q : 2 ^ b ≡ 2 ^ 5 * 2 ^ (b - 5) = ap (λ (k : ℕ). 2 ^ k) (sym five) ∙ p in
     omega (arith, q, fits, is)
-
-pub short_block : (b long : ℕ) → b ≤ 10 → long ≤ 8 * 2 ^ b → long < 2 ^ 62
-short_block b long most fits =
-    let p : 2 ^ b ≤ 2 ^ 10 = pow-le-pow_right {n = 2} (omega arith) {i = b} {j = 10} most in
-    omega (arith, p, fits)

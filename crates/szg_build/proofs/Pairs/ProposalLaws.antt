@@ -14,7 +14,7 @@ use Rattle.szg_build.proofs.Pairs.LeafLaws.{default_at}
 use Rattle.szg_file.specs.Accepted.{AreBytes, AreNumbers}
 use Rattle.szg_build.specs.Plan.{different_values}
 use Rattle.szg_build.specs.Pairing.{pair_count, pairs_in, values_of, IsUsed}
-use Rattle.szg_build.specs.Building.{IsRound, IsPairing, IsSymbolAt}
+use Rattle.szg_build.specs.Building.{IsRound, IsSymbolAt}
 use Rattle.szg_build.proofs.Pairs.LeafLaws.{all_push}
 
 -- ---- numbers below a bound
@@ -132,7 +132,3 @@ passed values entries symbols pairs dictionary triples few below same used count
   pairs = sym count;
   leaves = leaves;
 }
-
--- a round is a pairing if the number of rounds is that of its pairs
-pub as_made : (values : List ℕ) (entries : List (List ℕ)) (symbols : List ℕ) (pairs : ℕ) → pairs ≡ length (pairs_in entries) → IsRound values (length (pairs_in entries)) entries symbols → IsPairing values pairs entries symbols
-as_made values entries symbols pairs is round = record { done = length (pairs_in entries); round = round; finished = inl (sym is) }

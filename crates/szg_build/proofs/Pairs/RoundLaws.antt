@@ -1,5 +1,5 @@
 -- A round: making a pair keeps the values; if no pair is left, the dictionary is finished.
-use Rattle.std.proofs.Common.{ℕ, zero, suc, ◌≡◌, ◌+◌, ◌<◌, ◌≤◌, Bool, true, false, List, [], ◌∷◌, ◌++◌, length, get_or, refl, sym, ap, subst, ◌∙◌, arith, inl, inr, length-append}
+use Rattle.std.proofs.Common.{ℕ, ◌≡◌, ◌+◌, ◌<◌, ◌≤◌, Bool, true, false, List, [], ◌∷◌, ◌++◌, length, get_or, refl, sym, ap, subst, ◌∙◌, arith, inl, inr, length-append}
 use Rattle.std.specs.Prelude.{◌==◌, ◌&&◌}
 use Rattle.std.specs.List.{AllByRecursion}
 use Rattle.std.proofs.lemmas.Bool.{cases_lt, cases_order, eq-eqb, eqb-true}
@@ -8,7 +8,7 @@ use Rattle.szg_file.specs.Accepted.{AreBytes}
 use Rattle.szg_build.specs.Pairing.{pair_count, replaced, IsExhausted}
 use Rattle.szg_build.specs.Building.{entry_of, AreLens, IsCandidate, IsRound, IsPairing}
 use Rattle.szg_build.proofs.Pairs.Tests.{bool_cases}
-use Rattle.szg_build.proofs.Pairs.PairingLaws.{pair_count-here, pair_count-later}
+use Rattle.szg_build.proofs.Pairs.PairingLaws.{pair_count-later}
 use Rattle.szg_build.proofs.Pairs.Triples.{entry-left, entry-right, entry-pair, entry_fits}
 use Rattle.szg_build.proofs.Pairs.LeafLaws.{all_push, get_or-last, get_or-front}
 use Rattle.szg_build.proofs.Pairs.Growing.{IsNewPair, pair_grows, expansion-more, expansion-new, round_keeps_values, round_keeps_use, round_makes_one, round_keeps_names}
@@ -17,25 +17,6 @@ use Rattle.szg_build.proofs.Pairs.Growing.{IsNewPair, pair_grows, expansion-more
 
 both : (left right s t : ℕ) → s ≡ left → t ≡ right → ((s == left) && (t == right)) ≡ true
 both left right s t p q = rw (eq-eqb s left p, eq-eqb t right q) refl
-
--- a pair that occurs has a count above 0
-pub pair_is_valid : (left right : ℕ) (symbols : List ℕ) (i : ℕ) → i + 1 < length symbols → get_or symbols i 0 ≡ left → get_or symbols (i + 1) 0 ≡ right → 0 < pair_count left right symbols
-pair_is_valid left right [] i inside p q = absurd (omega (arith, inside))
-pair_is_valid left right (s ∷ []) i inside p q = absurd (omega (arith, inside))
-pair_is_valid left right (s ∷ t ∷ symbols) zero inside p q =
-    let here : pair_count left right (s ∷ t ∷ symbols) ≡ suc (pair_count left right symbols) = pair_count-here left right s t symbols (both left right s t p q) in
-    omega (arith, here)
-pair_is_valid left right (s ∷ t ∷ symbols) (suc i) inside p q =
-    elim (bool_cases ((s == left) && (t == right))) [
-      | inl h ↦
-          let here : pair_count left right (s ∷ t ∷ symbols) ≡ suc (pair_count left right symbols) = pair_count-here left right s t symbols h in
-          omega (arith, here)
-      | inr h ↦
-          let later : pair_count left right (s ∷ t ∷ symbols) ≡ pair_count left right (t ∷ symbols) = pair_count-later left right s t symbols h in
-          let next : suc i + 1 ≡ suc (i + 1) = omega arith in
-          let more = pair_is_valid left right (t ∷ symbols) i (omega (arith, inside)) p (subst (λ (k : ℕ). get_or (s ∷ t ∷ symbols) k 0 ≡ right) next q) in
-          omega (arith, later, more)
-    ]
 
 is_left : (left right s t : ℕ) (n : ℕ) → ((s == left) && (t == right)) ≡ true → s < n → t < n → (left < n) × (right < n)
 is_left left right s t n h a b =

@@ -291,11 +291,6 @@ pub reads_other : {A X Y R : Type 0} (f : Lines A) (view : X → A) (view' : Y �
     ReadsLines f view o n dev i k (Ok x) → ReadsLines f view' o n dev i k (Ok y)
 reads_other f view view' x y same read = goes_ends view' (goes_whole f view x read) (reads_nothing (means (view x)) view' y (ap means (sym same)))
 
-pub reads_alike : {A X R : Type 0} {f : Lines A} {view view' : X → A} {o n : Incoming} {dev : Ghosts R} {i k : R} (r : Result X DumpReadFault) →
-    ((x : X) → view x ≡ view' x) → ReadsLines f view o n dev i k r → ReadsLines f view' o n dev i k r
-reads_alike (Ok x) same read = reads_seen read (same x)
-reads_alike (Err fault) same read = reads_fault fault read
-
 pub same_part : (a a' b b' : List ℕ) → a ≡ a' → b ≡ b' → let p : Part = record { order = a; men = b } in let q : Part = record { order = a'; men = b' } in p ≡ q
 same_part a a' b b' e e' =
     ap (λ (z : List ℕ). let p : Part = record { order = z; men = b } in p) e ∙ ap (λ (z : List ℕ). let p : Part = record { order = a'; men = z } in p) e'

@@ -1,14 +1,12 @@
 -- The results of a reader of one line.
-use Rattle.std.proofs.Common.{◌≡◌, ℕ, suc, ◌+◌, ◌-◌, ◌^◌, ◌<◌, ◌≤◌, Bool, List, [], ◌++◌, length, take, drop, get_or, min, refl, sym, ap, subst, ◌∙◌, append-nil, arith, Ok, Err}
-use Rattle.std.specs.Prelude.{IsTrue}
+use Rattle.std.proofs.Common.{◌≡◌, ℕ, suc, ◌+◌, ◌-◌, ◌^◌, ◌<◌, ◌≤◌, List, [], ◌++◌, length, take, drop, get_or, min, refl, sym, ap, subst, ◌∙◌, append-nil, arith, Ok, Err}
 use Rattle.std.specs.Io.KnownBytes.{IsAtEnd}
-use Rattle.szg_io.specs.Device.{HasFailed}
 use Rattle.szg_io.specs.Moved.{Takes}
 use Rattle.szg_io.specs.declared.device.Input.{Ghosts}
 use Rattle.szg_io.proofs.DeviceLaws.{Takes-on, Takes-more}
 use Rattle.szg_build.specs.declared.reading.incoming.Incoming.{Incoming}
 use Rattle.szg_build.specs.declared.dump.DumpFault.TheVariants.{Field, Ended}
-use Rattle.szg_build.specs.declared.dump.DumpReadFault.TheVariants.{Line, Device}
+use Rattle.szg_build.specs.declared.dump.DumpReadFault.TheVariants.{Line}
 use Rattle.szg_build.specs.Held.{held_of}
 use Rattle.szg_build.specs.Lines.{Lines, line, means, words_of, of_line, good, refused, ended, verdict}
 use Rattle.szg_build.specs.Reading.{ReadsLines, IsLineFault, EndsWith, saturated_line}
@@ -68,17 +66,4 @@ reads_ended view {o = o} {dev = dev} {k = k} held taken number whole e fits befo
       let same : verdict words_line count (held_of o ++ taken) ≡ ended (suc count) =
       ap (λ (z : List ℕ). verdict words_line count z) (sym whole) ∙ line-unended means count held (first_line-unended 80 held fits before) in
       (subst (λ v. IsLineFault v number Ended) (sym same) (sym (next_parsed count o.line number stated e), refl), subst (λ v. EndsWith v (dev.coming k)) (sym same) at_end, still ∙ quiet);
-}
-
--- The reader fails.
-pub reads_failed : {X R : Type 0} (view : X → List (List ℕ)) {o n : Incoming} {dev : Ghosts R} {i j k : R} (taken : List ℕ) →
-    Takes dev i j taken 0 → dev.failures j ≡ dev.failures i → Takes dev j k [] 1 → HasFailed (dev.failures j) (dev.failures k) (dev.interrupted k) → IsTrue (dev.may_fail j) →
-    ReadsLines words_line view o n dev i k (Err Device)
-reads_failed view {dev = dev} {i = i} {k = k} taken takes quiet last failed may = record {
-  bytes = taken;
-  taken = nothing_more taken takes last;
-  answer = λ count stated. (
-    subst (λ (fs : ℕ). HasFailed fs (dev.failures k) (dev.interrupted k)) quiet failed,
-    subst (λ (b : Bool). IsTrue b) takes.stays may,
-  );
 }

@@ -1,6 +1,6 @@
 -- Cutting a line of fixed words and values returns these words, whatever the values are, and no other line is cut into
 -- them.
-use Rattle.std.proofs.Common.{◌≡◌, ℕ, zero, suc, Bool, true, false, List, [], ◌∷◌, ◌++◌, length, take, drop, get_or, Bor, refl, sym, ap, subst, ◌∙◌, arith, inl, inr, Option, Some, None}
+use Rattle.std.proofs.Common.{◌≡◌, ℕ, Bool, true, false, List, [], ◌∷◌, ◌++◌, length, take, drop, Bor, refl, sym, ap, subst, ◌∙◌, arith, inl, inr, Option, Some, None}
 use Rattle.std.specs.Prelude.{◌==◌, ◌<◌, ◌+◌, MatchOption, bytes_eq, option_map, if◌then◌else◌}
 use Rattle.std.specs.List.{AllByRecursion, list_any}
 use Rattle.std.proofs.lemmas.Bool.{eqb-true, or_parts, or_from}
@@ -178,11 +178,6 @@ no_word front text rest e space word h e' =
     let same : rest ≡ word = same_after front rest word (sym e ∙ e') in
     let never : list_any (λ byte. byte == 32) rest ≡ false = ap (λ (z : List ℕ). list_any (λ byte. byte == 32) z) same ∙ h in
     cc
-
-pub cut_at : (text : List ℕ) (i : ℕ) → i < length text → get_or text i 0 ≡ 32 → text ≡ take i text ++ 32 ∷ drop (suc i) text
-cut_at [] i there e = absurd (omega (arith, there))
-cut_at (byte ∷ text) zero there e = ap (λ (b : ℕ). b ∷ text) e
-cut_at (byte ∷ text) (suc i) there e = ap (λ (z : List ℕ). byte ∷ z) (cut_at text i (omega (arith, there)) e)
 
 -- ---- two words
 

@@ -148,13 +148,6 @@ pub refused-more : {A : Type 0} (f : Lines A) (count : ℕ) (bytes more : List �
     verdict f count (bytes ++ more) ≡ refused at why (rest ++ more)
 refused-more f count bytes more at why rest e = verdict-more f count bytes more (ap is_valid e) ∙ ap (verdict_more more) e
 
--- No whole text is a proper prefix of another.
-pub no_prefix : {A : Type 0} (f : Lines A) (count : ℕ) (text more : List ℕ) (a a' : A) (n n' : ℕ) →
-    verdict f count text ≡ good a n [] → verdict f count (text ++ more) ≡ good a' n' [] → more ≡ []
-no_prefix f count text more a a' n n' e e' =
-    let both : good a n more ≡ good a' n' [] = sym (good-more f count text more a n [] e) ∙ e' in
-    cc
-
 -- ---- cut texts
 
 cut_cases : {A : Type 0} (f : Lines A) (count : ℕ) (front : List ℕ) (byte : ℕ) (back : List ℕ) (a : A) (n : ℕ) (v : Verdict A) → verdict f count front ≡ v →
