@@ -1,5 +1,5 @@
 //! Block lengths, of which those are kept that the values of a subtable need.
-ghost use Rattle.std.specs.Prelude.{ℕ, List, ◌≡◌, ◌+◌, ◌*◌, ◌^◌, ◌≤◌, ◌<◌, ◌∷◌, [], ◌++◌, length, Err, IfOk, OnErr, OnOk};
+ghost use Rattle.std.specs.Prelude.{ℕ, sum_by, List, ◌≡◌, ◌+◌, ◌*◌, ◌^◌, ◌≤◌, ◌<◌, ◌∷◌, [], ◌++◌, length, Err, IfOk, OnErr, OnOk};
 ghost use Rattle.szg_file.specs.Grown.{HasCounted};
 ghost use Rattle.szg_file.specs.Held.{numbers_field};
 ghost use Rattle.szg_file.specs.Kept.{IsKept, ReadingOf};
@@ -46,6 +46,27 @@ impl KeptLengths {
         Ok(())
     }
 
+    /// Passes the next lengths, the total of whose values is `values`, and keeps all of them. If `last` is the number of one of
+    /// their blocks, it is the first's.
+    fn add_all(&mut self, numbers: &[u16], values: u64, last: u64) -> Result<(), ReadFault>
+        requires sum { values ≡ sum_by (λ n. n + 1) numbers.now }
+        requires small { values ≤ 65536 * length numbers.now }
+        requires few { self.old.seen + length numbers.now < 2 ^ 40 }
+        requires apart { self.old.seen < last → self.old.seen + length numbers.now ≤ last }
+        ensures kept { OnOk result ((limit : ℕ) (list : List ℕ) → self.old.values + values ≤ limit → IsKept limit last list self.old → IsKept limit last (list ++ numbers.now) self.new) }
+        ensures seen { OnOk result (self.new.seen ≡ self.old.seen + length numbers.now) }
+        ensures memory { OnErr result (result ≡ Err ReadFault.Memory) }
+    {
+        let seen = self.seen;
+        self.seen = seen + numbers.len() as u64;
+        if seen < last {
+            self.before_last += values;
+        }
+        self.values += values;
+        self.lengths.extend_from_slice(numbers)?;
+        Ok(())
+    }
+
     /// Passes the next lengths, at most 16,384.
     fn add(
         &mut self,
@@ -66,6 +87,12 @@ impl KeptLengths {
         ensures memory { OnErr result (result ≡ Err ReadFault.Memory) }
     {
         grow(&mut self.lengths, numbers.len(), state)?;
+        let values = numbers.iter().map(|n| u64::from(*n) + 1).sum();
+        let seen = self.seen;
+        let is_apart = last <= seen || seen + numbers.len() as u64 <= last;
+        if is_apart && self.values + values <= limit {
+            return self.add_all(numbers, values, last);
+        }
         for length in numbers {
             self.pass(*length, limit, last)?;
         }
