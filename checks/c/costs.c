@@ -1,7 +1,7 @@
 /* Calls the library COUNT times on an opened table, for counts of instructions: costs FOLDER CALL COUNT
  * CALL is check, open, get (short words), get_long (long pairs), index or share; again probes one position by a tablebase, whose
- * block is verified once, and behind by one to which the tables of 65 other materials were added before. With keep it prints
- * instead how many bytes of heap a tablebase keeps for FOLDER's large.rtbw. */
+ * block is verified once, and behind those of four materials in turn, whose tables were added behind those of 65 others, four times
+ * each. With keep it prints instead how many bytes of heap a tablebase keeps for FOLDER's large.rtbw. */
 #include "trying.h"
 #include <malloc.h>
 
@@ -22,11 +22,23 @@ static int keep(const char *folder) {
     return failed;
 }
 
+/* Adds a constant table of White's king and men against Black's king: 0 is a queen, 1 a rook, 2 a bishop, 3 a knight. */
+static void add_constant(szg_tablebase *tablebase, const int *men, int count) {
+    static uint8_t held[263][80];
+    static const uint8_t begin[] = {0x71, 0xe8, 0x23, 0x5d, 1, 0, 0x66};
+    static int n;
+    uint8_t *added = held[n++];
+    char its_name[8] = "K";
+    memcpy(added, begin, sizeof begin);
+    for (int i = 0; i < count; i++) its_name[1 + i] = "QRBN"[men[i]], added[7 + i] = (uint8_t)(0x55 - 0x11 * men[i]);
+    its_name[1 + count] = 'v', its_name[2 + count] = 'K', added[7 + count] = 0xee;
+    size_t flags = (size_t)(8 + count + count % 2);
+    added[flags] = added[flags + 2] = 0x80;
+    want("add constant", szg_tablebase_add(tablebase, its_name, strlen(its_name), false, added, 80, &answer), SZG_DONE);
+}
+
 /* Adds constant tables of White's king and two to four queens, rooks, bishops and knights against Black's king. */
 static void add_others(szg_tablebase *tablebase) {
-    static uint8_t held[65][80];
-    static char names[65][8];
-    static const uint8_t begin[] = {0x71, 0xe8, 0x23, 0x5d, 1, 0, 0x66};
     int n = 0;
     for (int four = 0; four < 625; four++) {
         int men[] = {four / 125, four / 25 % 5, four / 5 % 5, four % 5}, count = 0;
@@ -35,26 +47,25 @@ static void add_others(szg_tablebase *tablebase) {
         bool falls = count < 2;
         for (int i = 1; i < 4; i++) falls |= men[i] < men[i - 1];
         if (falls) continue;
-        memcpy(held[n], begin, sizeof begin);
-        names[n][0] = 'K';
-        for (int i = 0; i < count; i++) names[n][1 + i] = "QRBN"[men[i]], held[n][7 + i] = (uint8_t)(0x55 - 0x11 * men[i]);
-        names[n][1 + count] = 'v', names[n][2 + count] = 'K', held[n][7 + count] = 0xee;
-        size_t flags = (size_t)(8 + count + count % 2);
-        held[n][flags] = held[n][flags + 2] = 0x80;
-        want("add another", szg_tablebase_add(tablebase, names[n], strlen(names[n]), false, held[n], 80, &answer), SZG_DONE);
+        add_constant(tablebase, men, count);
         n++;
     }
     want("others", n, 65);
 }
 
 static int again(uint64_t times, bool is_behind) {
-    static const szg_man men[3] = {{SZG_KING, SZG_WHITE, 1}, {SZG_QUEEN, SZG_WHITE, 17}, {SZG_KING, SZG_BLACK, 34}};
+    static const uint8_t kinds[] = {SZG_QUEEN, SZG_ROOK, SZG_BISHOP, SZG_KNIGHT};
+    szg_man men[3] = {{SZG_KING, SZG_WHITE, 1}, {SZG_QUEEN, SZG_WHITE, 17}, {SZG_KING, SZG_BLACK, 42}};
     szg_tablebase tablebase = SZG_NO_TABLEBASE;
     szg_missing missing;
     int8_t class;
-    if (is_behind) add_others(&tablebase);
+    for (int i = 0; is_behind && i < 4; i++) add_others(&tablebase);
+    for (int man = 1; is_behind && man < 4; man++) add_constant(&tablebase, &man, 1);
     want("add", szg_tablebase_add(&tablebase, OF_FILE, &answer), SZG_DONE);
-    for (uint64_t i = 0; i < times; i++) want("class", szg_tablebase_wdl(&tablebase, men, 3, SZG_WHITE, SZG_NO_SQUARE, &class, &missing), SZG_DONE);
+    for (uint64_t i = 0; i < times; i++) {
+        if (is_behind) men[1].kind = kinds[i % 4];
+        want("class", szg_tablebase_wdl(&tablebase, men, 3, SZG_WHITE, SZG_NO_SQUARE, &class, &missing), SZG_DONE);
+    }
     szg_close_tablebase(&tablebase);
     return failed;
 }
