@@ -59,17 +59,6 @@ module _ (lengths : List ℕ) (span_bits i : ℕ) (entry : Entry) (good : IsGood
   pub led_back : i % 2 ^ span_bits + entry.offset < 2 ^ span_bits / 2 → start lengths entry.block ≡ i + (2 ^ span_bits / 2 - (i % 2 ^ span_bits + entry.offset))
   led_back h = omega (arith, middle_at, h)
 
--- a good entry leads from the start of its block to value i of the next span
-pub led_after : (lengths : List ℕ) (span_bits i j : ℕ) (entry : Entry) → i / 2 ^ span_bits ≡ j + 1 → IsGoodAt lengths span_bits j entry →
-    start lengths entry.block + (i % 2 ^ span_bits + entry.offset + (2 ^ span_bits - 2 ^ span_bits / 2)) ≡ i
-unfolding middle_of_span
-led_after lengths span_bits i j entry next good =
-    let w : ℕ = 2 ^ span_bits in
-    let d : w * (i / w) + i % w ≡ i = div-add-mod i w in
-    let e : w * (i / w) ≡ w * (j + 1) = ap (λ (n : ℕ). w * n) next in
-    let f : w * (j + 1) ≡ j * w + w = omega arith in
-    omega (arith, d, e, f, good.1)
-
 -- the result of a walk from the sparse entry to value i: its block, its index there, and the moves to that block
 pub record IsFoundAt (layout : Layout) (i j p m : ℕ) : Type 0 where
   pub there : j < layout.blocks

@@ -24,7 +24,7 @@ use Rattle.szg_block.specs.declared.Entry.{Entry}
 use Rattle.szg_block.specs.declared.Sub.{Sub}
 use Rattle.szg_block.proofs.ByEntry.{span_there}
 use Rattle.szg_block.proofs.Kept.{start-end, kept_few, kept_location, kept_needed, kept_past, kept_start, kept_total}
-use Rattle.szg_block.proofs.Values.{location_of-holder, start-le-total, start-monotone}
+use Rattle.szg_block.proofs.Values.{location_of-holder, start-le-total, start-monotone, start-zero}
 use Rattle.szg_block.proofs.Walking.{one_block}
 
 -- each value below the size is where it was
@@ -194,20 +194,26 @@ moves_to layout i j entry is at =
 
 -- the entry of a value's span, and the one before it
 module _ (sparse : List Entry) (lengths : List ℕ) (span_bits i : ℕ) (kept : (j : ℕ) → HasKeptAt lengths span_bits sparse j) (entry : Entry) (is : slice_get sparse (i / 2 ^ span_bits) ≡ Some entry) where
-  pub good_within : entry.block ≤ length lengths → IsGoodAt lengths span_bits (i / 2 ^ span_bits) entry
-  good_within within =
-      elim (rw is at (kept (i / 2 ^ span_bits))) [
-        | inl good ↦ good
-        | inr last ↦ absurd (omega (arith, last.0, within))
-      ]
-
-  pub good_before : length lengths < entry.block → (j : ℕ) (before : Entry) → i / 2 ^ span_bits ≡ j + 1 → slice_get sparse j ≡ Some before → IsGoodAt lengths span_bits j before
-  good_before past j before next at =
+  pub good_before : (j : ℕ) (before : Entry) → i / 2 ^ span_bits ≡ j + 1 → slice_get sparse j ≡ Some before → IsGoodAt lengths span_bits j before
+  good_before j before next at =
       let there : i / 2 ^ span_bits < length sparse = slice_get_within sparse (i / 2 ^ span_bits) entry is in
       elim (rw at at (kept j)) [
         | inl good ↦ good
         | inr last ↦ absurd (omega (arith, last.1, next, there))
       ]
+
+-- the middle of a span from the entry before, and that of the first span from block 0
+pub middle_next : (lengths : List ℕ) (span_bits j : ℕ) (before : Entry) → IsGoodAt lengths span_bits j before →
+    start lengths before.block + (before.offset + 2 ^ span_bits) ≡ middle_of_span span_bits (j + 1)
+unfolding middle_of_span
+middle_next lengths span_bits j before good =
+    let w : ℕ = 2 ^ span_bits in
+    let e : (j + 1) * w ≡ j * w + w = omega arith in
+    omega (arith, e, good.1)
+
+pub middle_first : (lengths : List ℕ) (span_bits : ℕ) → start lengths 0 + 2 ^ span_bits / 2 ≡ middle_of_span span_bits 0
+unfolding middle_of_span
+middle_first lengths span_bits = omega (arith, start-zero lengths)
 
 kept_of_entry : (lengths : List ℕ) (span_bits : ℕ) (sparse : List Entry) (j : ℕ) (o : Option Entry) →
     IfSome (option_map entry_of o) (λ entry. ((entry.block ≤ length lengths) × (start lengths entry.block + entry.offset ≡ middle_of_span span_bits j))

@@ -1,4 +1,4 @@
-use Rattle.std.proofs.Common.{◌≡◌, ◌/◌, ◌^◌, List, Some, length, ap, sym, ◌∙◌, arith}
+use Rattle.std.proofs.Common.{◌≡◌, ◌/◌, ◌^◌, Some, ap, sym, ◌∙◌, arith}
 use Rattle.std.specs.List.{slice_get}
 use Rattle.std.specs.Option.{option_map}
 use Rattle.std.proofs.lemmas.Option.{slice_get-get_or, slice_get-map}
@@ -8,11 +8,20 @@ use Rattle.szg_block.specs.declared.Entry.{Entry}
 use Rattle.szg_block.proofs.KeptLayouts.{kept_entries, located_at, located_below, moves_to, span_entry, value_before_end}
 use Rattle.szg_block.proofs.probing.locate_value.Goals as goal
 
+pub index-entry-requires : goal.index-entry-requires
+index-entry-requires c =
+    let can = rw c.in-Pairs.is at c.requires.index in
+    let there = span_entry c.in-Pairs.block_bits c.in-Pairs.span_bits c.in-Pairs.extra c.in-Pairs.blocks c.in-Pairs.code c.in-Pairs.dict c.in-Pairs.sparse.items c.in-Pairs.lengths.items c.args.size can c.args.i c.requires.below in
+    omega (arith, there)
+
 pub find_kept-requires-clause-entry : goal.find_kept-requires-clause-entry
 find_kept-requires-clause-entry c =
     let can = rw c.in-Pairs.is at c.requires.index in
     let there = span_entry c.in-Pairs.block_bits c.in-Pairs.span_bits c.in-Pairs.extra c.in-Pairs.blocks c.in-Pairs.code c.in-Pairs.dict c.in-Pairs.sparse.items c.in-Pairs.lengths.items c.args.size can c.args.i c.requires.below in
-    omega (arith, there, ap (λ (l : List Entry). length l) c.deref.ensures.value)
+    let entry : Entry = c.index-entry.result.now in
+    let found : slice_get c.in-Pairs.sparse.items (c.args.i / 2 ^ c.in-Pairs.span_bits) ≡ Some entry =
+    slice_get-get_or c.in-Pairs.sparse.items (c.args.i / 2 ^ c.in-Pairs.span_bits) entry there ∙ ap Some (sym c.index-entry.ensures) in
+    rw c.deref.ensures.value found
 
 pub unreachable-requires : goal.unreachable-requires
 unreachable-requires c =
@@ -31,12 +40,6 @@ prove-unreachable-requires c =
     let is = (rw (c.deref.ensures.value, c.deref-2.ensures.value) at c.in-Some.ensures.location) kept in
     let there = located_below layout c.args.size can.total c.args.i c.requires.below c.in-Some.at.block c.in-Some.at.item c.in-Some.at.length some is in
     omega (arith, there, c.if-prove.true)
-
-pub index-entry-requires : goal.index-entry-requires
-index-entry-requires c =
-    let can = rw c.in-Pairs.is at c.requires.index in
-    let there = span_entry c.in-Pairs.block_bits c.in-Pairs.span_bits c.in-Pairs.extra c.in-Pairs.blocks c.in-Pairs.code c.in-Pairs.dict c.in-Pairs.sparse.items c.in-Pairs.lengths.items c.args.size can c.args.i c.requires.below in
-    omega (arith, there, ap (λ (l : List Entry). length l) c.deref.ensures.value, c.deref.ensures.len)
 
 pub returns-clause-there : goal.returns-clause-there
 returns-clause-there c = rw c.in-Pairs.is c.if-prove.false
