@@ -11,7 +11,7 @@ ghost use Rattle.szg_code.specs.Spelling.{BeginsWithNoWord};
 ghost use Rattle.szg_block.specs.Spelled.{AreSymbols, values_of, values_spelled, word_at, pairs_above};
 
 use std::alloc::AllocError;
-use szg_code::{Bits, Code, NextWords, WordReader, next, next_word, next_word_if, next_words};
+use szg_code::{Code, NextWords, WordReader, next_word, next_word_if, next_words};
 use szg_pairs::Dict;
 use szg_pairs::entry::{is_leaf, left, right};
 
@@ -22,7 +22,7 @@ pub fn spells(code: &Code, dict: &Dict, block: &[u8], needed: u64) -> bool
     requires size { length block.now ≤ 2 ^ 60 }
     ensures { IsTrue result ↔ (needed ≤ length (values_spelled code.now dict.now (bits block.now))) }
 {
-    spells_on(code, dict, Bits::new(block), needed)
+    spells_on(code, dict, WordReader::new(block), needed)
 }
 
 /// Returns the number of values of one or two words.
@@ -68,20 +68,23 @@ struct Reached<'a> {
     /// The value's index among them.
     index: u64,
     /// The reader, moved past these words.
-    bits: Bits<'a>,
+    left: WordReader<'a>,
 }
 
-/// Decodes one word (if `TWO`, one or two), moves the reader past what it decoded, and returns the symbols. None if the
-/// bits left do not begin with a word.
+/// Decodes one word, or if `TWO`, one or two; moves the reader past what it decoded, and returns the symbols. None if the
+/// bits left do not begin with a word. A word's length is found as `next_word_if` does.
 #[inline(always)]
-fn step<const TWO: bool>(code: &Code, bits: &mut Bits) -> Option<NextWords>
-    ensures found { IfSome result (λ words. TakesWords code.now bits.old bits.new (symbols_of words)) }
-    ensures none { IfNone result (BeginsWithNoWord code.now bits.old.left) }
+fn step<const TWO: bool, const TABLE: bool>(
+    code: &Code,
+    words: &mut WordReader,
+) -> Option<NextWords>
+    ensures found { IfSome result (λ taken. TakesWords code.now words.old words.new (symbols_of taken)) }
+    ensures none { IfNone result (BeginsWithNoWord code.now words.old.left) }
 {
     if TWO {
-        return next_words(code, bits);
+        return next_words(code, words);
     }
-    match next(code, bits) {
+    match next_word_if::<TABLE>(code, words) {
         Some(symbol) => Some(NextWords::One(symbol)),
         None => None,
     }
@@ -89,10 +92,10 @@ fn step<const TWO: bool>(code: &Code, bits: &mut Bits) -> Option<NextWords>
 
 /// Decodes words up to those that contain the value at `index`. None if the bits left spell too few values.
 #[inline(always)]
-fn reach_by<'a, const TWO: bool>(
+fn reach_by<'a, const TWO: bool, const TABLE: bool>(
     code: &Code,
     dict: &Dict,
-    left: Bits<'a>,
+    left: WordReader<'a>,
     index: u64,
 ) -> Option<Reached<'a>>
     requires accepted { IsCode code.now }
@@ -103,19 +106,19 @@ fn reach_by<'a, const TWO: bool>(
     ensures within { IfSome result (λ reached. reached.index < reached.count) }
     ensures at_most { IfSome result (λ reached. reached.index ≤ index) }
     ensures value { IfSome result (λ reached. slice_get (values_of dict.now (symbols_of reached.words)) reached.index ≡ slice_get (values_spelled code.now dict.now left.entry.left) index) }
-    ensures spelled { IfSome result (λ reached. length (values_spelled code.now dict.now left.entry.left) ≡ (index - reached.index) + reached.count + length (values_spelled code.now dict.now reached.bits.left)) }
+    ensures spelled { IfSome result (λ reached. length (values_spelled code.now dict.now left.entry.left) ≡ (index - reached.index) + reached.count + length (values_spelled code.now dict.now reached.left.left)) }
     ensures none { IfNone result (length (values_spelled code.now dict.now left.entry.left) ≤ index) }
 {
-    let mut bits = left;
+    let mut left = left;
     let mut ahead = index;
-    while let Some(words) = step::<TWO>(code, &mut bits) {
+    while let Some(words) = step::<TWO, TABLE>(code, &mut left) {
         let count = count_of(dict, words);
         if ahead < count {
             return Some(Reached {
                 words,
                 count,
                 index: ahead,
-                bits,
+                left,
             });
         }
         ahead -= count;
@@ -123,9 +126,9 @@ fn reach_by<'a, const TWO: bool>(
     None
 }
 
-/// As `reach_by`, and decodes up to two words at a step if the code has a table of the first two words of each byte.
+/// As `reach_by`, in the way that is quickest for the code.
 #[inline(always)]
-fn reach<'a>(code: &Code, dict: &Dict, left: Bits<'a>, index: u64) -> Option<Reached<'a>>
+fn reach<'a>(code: &Code, dict: &Dict, left: WordReader<'a>, index: u64) -> Option<Reached<'a>>
     requires accepted { IsCode code.now }
     requires symbols { code.now.symbols ≡ length dict.now }
     ensures there { IfSome result (λ reached. AreSymbols dict.now (symbols_of reached.words)) }
@@ -134,19 +137,21 @@ fn reach<'a>(code: &Code, dict: &Dict, left: Bits<'a>, index: u64) -> Option<Rea
     ensures within { IfSome result (λ reached. reached.index < reached.count) }
     ensures at_most { IfSome result (λ reached. reached.index ≤ index) }
     ensures value { IfSome result (λ reached. slice_get (values_of dict.now (symbols_of reached.words)) reached.index ≡ slice_get (values_spelled code.now dict.now left.entry.left) index) }
-    ensures spelled { IfSome result (λ reached. length (values_spelled code.now dict.now left.entry.left) ≡ (index - reached.index) + reached.count + length (values_spelled code.now dict.now reached.bits.left)) }
+    ensures spelled { IfSome result (λ reached. length (values_spelled code.now dict.now left.entry.left) ≡ (index - reached.index) + reached.count + length (values_spelled code.now dict.now reached.left.left)) }
     ensures none { IfNone result (length (values_spelled code.now dict.now left.entry.left) ≤ index) }
 {
-    if code.has_two_words() {
-        reach_by::<true>(code, dict, left, index)
+    if code.is_read_word_by_word() {
+        reach_by::<false, false>(code, dict, left, index)
+    } else if code.has_two_words() {
+        reach_by::<true, true>(code, dict, left, index)
     } else {
-        reach_by::<false>(code, dict, left, index)
+        reach_by::<false, true>(code, dict, left, index)
     }
 }
 
 /// Returns whether the bits left spell `needed` values or more.
 #[inline(always)]
-fn spells_on(code: &Code, dict: &Dict, left: Bits, needed: u64) -> bool
+fn spells_on(code: &Code, dict: &Dict, left: WordReader, needed: u64) -> bool
     requires accepted { IsCode code.now }
     requires symbols { code.now.symbols ≡ length dict.now }
     ensures { IsTrue result ↔ (needed ≤ length (values_spelled code.now dict.now left.entry.left)) }
@@ -171,10 +176,10 @@ pub(crate) fn find_verified(
     ensures enough { IfSome result (λ _. needed ≤ length (values_spelled code.now dict.now (bits block.now))) }
     ensures few { IfNone result (¬ (needed ≤ length (values_spelled code.now dict.now (bits block.now)))) }
 {
-    let reached = reach(code, dict, Bits::new(block), index)?;
+    let reached = reach(code, dict, WordReader::new(block), index)?;
     let before = index - reached.index;
     let missing = (needed - before).saturating_sub(reached.count);
-    if !spells_on(code, dict, reached.bits, missing) {
+    if !spells_on(code, dict, reached.left, missing) {
         return None;
     }
     Some(value_in(dict, reached.words, reached.index as u16))
@@ -189,40 +194,8 @@ pub(crate) fn find_up_to(code: &Code, dict: &Dict, block: &[u8], index: u64) -> 
     ensures value { IfSome result (λ value. slice_get (values_spelled code.now dict.now (bits block.now)) index ≡ Some value) }
     ensures none { IfNone result (length (values_spelled code.now dict.now (bits block.now)) ≤ index) }
 {
-    if code.is_read_word_by_word() {
-        return find_by_words::<false>(code, dict, WordReader::new(block), index);
-    }
-    if !code.has_two_words() {
-        return find_by_words::<true>(code, dict, WordReader::new(block), index);
-    }
-    let reached = reach_by::<true>(code, dict, Bits::new(block), index)?;
+    let reached = reach(code, dict, WordReader::new(block), index)?;
     Some(value_in(dict, reached.words, reached.index as u16))
-}
-
-/// Returns the value at `index` among those that the remaining bits decode to. None if they spell no more than `index`
-/// values. Decodes word by word, and finds a word's length as `next_word_if` does.
-#[inline(always)]
-fn find_by_words<const TABLE: bool>(
-    code: &Code,
-    dict: &Dict,
-    left: WordReader,
-    index: u64,
-) -> Option<u16>
-    requires accepted { IsCode code.now }
-    requires symbols { code.now.symbols ≡ length dict.now }
-    ensures value { IfSome result (λ value. slice_get (values_spelled code.now dict.now left.entry.left) index ≡ Some value) }
-    ensures none { IfNone result (length (values_spelled code.now dict.now left.entry.left) ≤ index) }
-{
-    let mut words = left;
-    let mut ahead = index;
-    while let Some(symbol) = next_word_if::<TABLE>(code, &mut words) {
-        let count = u64::from(dict.len(symbol));
-        if ahead < count {
-            return Some(dict.value_at(symbol, ahead as u16));
-        }
-        ahead -= count;
-    }
-    None
 }
 
 /// Returns the value at `index` in a block whose own bits spell more than `index` values.
@@ -236,7 +209,7 @@ pub fn value_at(code: &Code, dict: &Dict, block: &[u8], index: u64) -> u16
     if code.is_read_word_by_word() {
         return value_by_words(code, dict, WordReader::new(block), index);
     }
-    let Some(reached) = reach(code, dict, Bits::new(block), index) else {
+    let Some(reached) = reach(code, dict, WordReader::new(block), index) else {
         unreachable!()
     };
     value_in(dict, reached.words, reached.index as u16)
@@ -285,10 +258,10 @@ pub(crate) fn find_in_block(code: &Code, dict: &Dict, block: &[u8], index: u64) 
     ensures words { result.words ≡ (word_at code.now dict.now (bits block.now) index).list + 1 }
     ensures pairs { result.pairs ≡ pairs_above code.now dict.now (bits block.now) index }
 {
-    let mut words = Bits::new(block);
+    let mut words = WordReader::new(block);
     let mut ahead = index;
     let mut before = 0;
-    while let Some(symbol) = next(code, &mut words) {
+    while let Some(symbol) = next_word_if::<true>(code, &mut words) {
         let count = dict.len(symbol);
         if ahead < u64::from(count) {
             let end = dict.descend(symbol, ahead as u16);
@@ -350,10 +323,10 @@ pub(crate) fn push_values(
     ensures { OnOk result (values.new.items ≡ values.old.items ++ take needed (values_spelled code.now dict.now (bits block.now))) }
 {
     prove_eq!(code.symbols(), dict.symbols());
-    let mut words = Bits::new(block);
+    let mut words = WordReader::new(block);
     let mut missing = needed;
     while missing > 0 {
-        let Some(symbol) = next(code, &mut words) else {
+        let Some(symbol) = next_word_if::<true>(code, &mut words) else {
             unreachable!()
         };
         let count = u64::from(dict.len(symbol)).min(missing);
@@ -397,10 +370,10 @@ pub fn write_values(code: &Code, dict: &Dict, block: &[u8], values: &mut [u16])
     ensures { values.new ≡ take (length values.old) (values_spelled code.now dict.now (bits block.now)) }
 {
     prove_eq!(code.symbols(), dict.symbols());
-    let mut words = Bits::new(block);
+    let mut words = WordReader::new(block);
     let mut at = 0;
     'words: while at < values.len() {
-        let Some(symbol) = next(code, &mut words) else {
+        let Some(symbol) = next_word_if::<true>(code, &mut words) else {
             unreachable!()
         };
         let count = (dict.len(symbol) as usize).min(values.len() - at);

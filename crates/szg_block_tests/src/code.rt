@@ -2,7 +2,7 @@
 use crate::helpers::made;
 use std::alloc::Global;
 use std::process::Abort;
-use szg_code::{BitBuf, Bits, Code, CodeFault, PutFault, next, put, word};
+use szg_code::{BitBuf, Code, CodeFault, PutFault, WordReader, next_word_if, put, word};
 
 fn code(rt: &(impl Abort + Alloc<A = Global>), min: u8, max: u8, lowest: &[u16], n: u16) -> Code {
     let lowest = made(rt, lowest.to_vec(rt.alloc()));
@@ -61,19 +61,20 @@ fn refused_codes(rt: HostRuntime) {
     check_refused(&rt, (1, 2), &[65535, 0], 65535, CodeFault::TooFull(0));
 }
 
-/// Two words at a step are read if at least 192 of 256 bytes begin with two whole words; word by word is read a code in which
-/// seven of eight windows begin with a word of the least length, or of two lengths of which two words at a step aren't read.
+/// Two words at a step are read if at least 192 of 256 bytes begin with two whole words. Word by word is read another code in
+/// which 63 of 64 windows begin with a word of the two least lengths.
 #[test]
 fn ways_of_reading(rt: HostRuntime) {
     let codes = [
         (code(&rt, 1, 2, &[2, 0], 3), true, false),
         // 14 words of 4 bits, so 14 * 14 bytes
-        (code(&rt, 4, 5, &[4, 0], 18), true, true),
+        (code(&rt, 4, 5, &[4, 0], 18), true, false),
         // 13 words of 4 bits, so 13 * 13 bytes
         (code(&rt, 4, 5, &[6, 0], 19), false, true),
-        // 28 and 24 words of 5 bits: 7 and 6 of 8 windows
-        (code(&rt, 5, 7, &[12, 8, 0], 40), false, true),
-        (code(&rt, 5, 7, &[24, 16, 0], 48), false, false),
+        (code(&rt, 5, 5, &[0], 32), false, true),
+        // 2 and 4 words of 7 bits: 1 and 2 of 64 windows
+        (code(&rt, 5, 7, &[33, 2, 0], 64), false, true),
+        (code(&rt, 5, 7, &[34, 4, 0], 64), false, false),
     ];
     for (code, two_words, word_by_word) in codes.iter() {
         let found = (code.has_two_words(), code.is_read_word_by_word());
@@ -81,19 +82,31 @@ fn ways_of_reading(rt: HostRuntime) {
     }
 }
 
-fn check_symbols(rt: &impl Abort, code: &Code, bytes: &[u8], symbols: &[u16], place: u64) {
+/// The bytes begin with the words of these symbols, of `place` bits together, and then no word follows.
+fn check_symbols_by<const TABLE: bool>(
+    rt: &impl Abort,
+    code: &Code,
+    bytes: &[u8],
+    symbols: &[u16],
+    place: u64,
+) {
     assert!(rt; bytes.len() <= 64);
-    let mut bits = Bits::new(bytes);
+    let mut words = WordReader::new(bytes);
     for symbol in symbols {
         assert!(rt;
-            next(code, &mut bits) == Some(*symbol),
+            next_word_if::<TABLE>(code, &mut words) == Some(*symbol),
             "{symbol}, to {place}"
         );
     }
     assert!(rt;
-        next(code, &mut bits).is_none() && bits.place() == place,
+        next_word_if::<TABLE>(code, &mut words).is_none() && words.place() == place,
         "behind {place}"
     );
+}
+
+fn check_symbols(rt: &impl Abort, code: &Code, bytes: &[u8], symbols: &[u16], place: u64) {
+    check_symbols_by::<true>(rt, code, bytes, symbols, place);
+    check_symbols_by::<false>(rt, code, bytes, symbols, place);
 }
 
 #[test]

@@ -7,13 +7,13 @@ use Rattle.std.proofs.lemmas.Grind.{get_or-set_at}
 use Rattle.szg_code.specs.Bits.{bits, bits_of_number, number}
 use Rattle.szg_code.specs.Canonical.{CanonicalCode}
 use Rattle.szg_code.specs.Cursor.{Cursor, TakesWord}
-use Rattle.szg_code.specs.Window.{IsReader}
+use Rattle.szg_code.specs.Window.{IsWindow}
 use Rattle.szg_code.specs.TwoWords.{BeginsWithTwoWords, ContainsTwoWords, HasTwoWords, no_words}
 use Rattle.szg_code.specs.declared.two_words.TwoWords.{TwoWords}
 use Rattle.szg_code.proofs.Numbers.{length-bits_of_number, number-bits_of_number, number-injective, mod-small}
 use Rattle.szg_code.proofs.ByteBits.{bits-cons, bits-nil}
 use Rattle.szg_code.proofs.Reading.{number-take}
-use Rattle.szg_code.proofs.Windows.{IsWindow-reader, number-of_window}
+use Rattle.szg_code.proofs.Windows.{number-of_window}
 
 -- ---- the words of a byte
 
@@ -67,7 +67,7 @@ one_more_byte code list byte words there has here k =
 
 -- ---- a reader whose window begins with that byte
 
-module _ (code : CanonicalCode) (bytes : List ℕ) (offset window : ℕ) (r : IsReader bytes offset window) (fits : window < 2 ^ 64) where
+module _ (code : CanonicalCode) (bytes : List ℕ) (offset window spare : ℕ) (r : IsWindow bytes offset window spare) (room : 8 + spare ≤ 64) (fits : window < 2 ^ 64) where
   same_bits : (n : ℕ) → n ≤ 8 → n ≤ length (drop offset (bits bytes)) → take n (drop offset (bits bytes)) ≡ take n (bits_of_number 8 (window / 2 ^ 56))
   same_bits n short inside =
       let left : List Bool = drop offset (bits bytes) in
@@ -79,7 +79,7 @@ module _ (code : CanonicalCode) (bytes : List ℕ) (offset window : ℕ) (r : Is
       let t' : number (take n (bits_of_number 8 byte)) ≡ byte / 2 ^ (8 - n) = rw (eight, value) at t in
       let s : byte / 2 ^ (8 - n) ≡ window / 2 ^ (56 + (8 - n)) = shr-shr window 56 (8 - n) in
       let e : 56 + (8 - n) ≡ 64 - n = omega arith in
-      let v : window / 2 ^ (64 - n) ≡ number (take n left) = number-of_window bytes offset window _ n (IsWindow-reader bytes offset window r) (omega arith) inside in
+      let v : window / 2 ^ (64 - n) ≡ number (take n left) = number-of_window bytes offset window spare n r (omega arith) inside in
       let long : length (take n left) ≡ n = length-take-le n left inside in
       let long' : length (take n (bits_of_number 8 byte)) ≡ n = length-take-le n (bits_of_number 8 byte) (omega arith) in
       number-injective (take n left) (take n (bits_of_number 8 byte)) (long ∙ sym long') (sym v ∙ ap (λ (k : ℕ). window / 2 ^ k) (sym e) ∙ sym s ∙ sym t')

@@ -10,7 +10,7 @@ use Rattle.szg_code.specs.Bits.{bits, number}
 use Rattle.szg_code.specs.Canonical.{CanonicalCode, base, symbol_at}
 use Rattle.szg_code.specs.Acceptance.{IsCode}
 use Rattle.szg_code.specs.Least.{IsLeastLength, ReachesNoBase, shifted_base, symbol_of_prefix}
-use Rattle.szg_code.specs.Window.{padded, window_at, IsReader, IsWindow, HoldsBits}
+use Rattle.szg_code.specs.Window.{padded, IsWindow, HoldsBits}
 use Rattle.szg_code.proofs.Numbers.{number-append, number-below, number-bits_of_number, mod-small, number-zeros}
 use Rattle.szg_code.proofs.Reading.{number-take, reaches-shifted_base, shifted_base-reaches, least_length_of_window, no_base_of_window}
 use Rattle.szg_code.proofs.Prefixes.{symbol_of_prefix-is}
@@ -87,87 +87,6 @@ moved xs e l n total =
     let j : number (padded (64 - e) xs) * 2 ^ e * 2 ^ l ≡ a * 2 ^ 64 + b * k = rw (whole, p', q) (omega arith) in
     ap (λ (m : ℕ). m % 2 ^ 64) j ∙ mod_low a 64 (b * k) fits'
 
-pub IsReader-moved : (bytes : List ℕ) (offset window l : ℕ) → IsReader bytes offset window → l ≤ length (drop offset (bits bytes)) → offset % 32 + l < 32 →
-    IsReader bytes (offset + l) (window * 2 ^ l % 18446744073709551616)
-unfolding window_at
-IsReader-moved bytes offset window l r inside within =
-    let all : List Bool = bits bytes in
-    let e : ℕ = offset % 32 in
-    let n : ℕ = 64 - (e + l) in
-    let left : length (drop offset all) ≡ 8 * length bytes - offset = length-left offset bytes in
-    let was : offset ≤ 8 * length bytes = r.inside in
-    let next : (offset + l) % 32 ≡ e + l = omega arith in
-    let d : drop l (drop offset all) ≡ drop (offset + l) all = drop-drop l offset all in
-    let m : number (padded (64 - e) (drop offset all)) * 2 ^ e * 2 ^ l % 2 ^ 64 ≡ number (padded n (drop l (drop offset all))) * 2 ^ (e + l) = moved (drop offset all) e l n (omega arith) in
-    let w : window ≡ number (padded (64 - e) (drop offset all)) * 2 ^ e = r.window_is in
-    record {
-      fits = r.fits;
-      inside = omega (arith, left, inside, was);
-      window_is = rw (next, ← d, w) m;
-    }
-
-pub IsReader-refilled : (bytes : List ℕ) (offset window l half : ℕ) → IsReader bytes offset window → l ≤ 32 → l ≤ length (drop offset (bits bytes)) → 32 ≤ offset % 32 + l →
-    half ≡ number (padded 32 (drop (8 * (4 * ((offset + l) / 32) + 4)) (bits bytes))) →
-    IsReader bytes (offset + l) (bit_or (window * 2 ^ l % 18446744073709551616) (half * 2 ^ ((offset + l) % 32) % 18446744073709551616))
-unfolding window_at
-IsReader-refilled bytes offset window l half r short inside across half_is =
-    let all : List Bool = bits bytes in
-    let e : ℕ = offset % 32 in
-    let f : ℕ = (offset + l) % 32 in
-    let n : ℕ = 32 - f in
-    let ys : List Bool = drop (offset + l) all in
-    let left : length (drop offset all) ≡ 8 * length bytes - offset = length-left offset bytes in
-    let was : offset ≤ 8 * length bytes = r.inside in
-    let next : e + l ≡ 32 + f = omega arith in
-    let d : drop l (drop offset all) ≡ ys = drop-drop l offset all in
-    let m : number (padded (64 - e) (drop offset all)) * 2 ^ e * 2 ^ l % 2 ^ 64 ≡ number (padded n (drop l (drop offset all))) * 2 ^ (e + l) = moved (drop offset all) e l n (omega arith) in
-    let w : window ≡ number (padded (64 - e) (drop offset all)) * 2 ^ e = r.window_is in
-    let b : ℕ = number (padded n ys) in
-    let shifted : window * 2 ^ l % 2 ^ 64 ≡ b * 2 ^ (32 + f) = rw (w, ← next, ← d) m in
-    let at : offset + l + n ≡ 8 * (4 * ((offset + l) / 32) + 4) = omega arith in
-    let rest : drop n ys ≡ drop (8 * (4 * ((offset + l) / 32) + 4)) all = drop-drop n (offset + l) all ∙ ap (λ (k : ℕ). drop k all) at in
-    let tail : number (padded 32 (drop n ys)) ≡ half = ap (λ (u : List Bool). number (padded 32 u)) rest ∙ sym half_is in
-    let len : length (padded 32 (drop n ys)) ≡ 32 = length-padded 32 (drop n ys) in
-    let below : number (padded 32 (drop n ys)) < 2 ^ length (padded 32 (drop n ys)) = number-below (padded 32 (drop n ys)) in
-    let small : half < 2 ^ 32 = rw (len, tail) at below in
-    let whole : half * 2 ^ f % 2 ^ 64 ≡ half * 2 ^ f = shl_whole half 32 f 64 small (omega arith) in
-    let low : half * 2 ^ f < 2 ^ (32 + f) = shl_below half 32 f small in
-    let joined : bit_or (b * 2 ^ (32 + f)) (half * 2 ^ f) ≡ b * 2 ^ (32 + f) + half * 2 ^ f = or_shifted b (32 + f) (half * 2 ^ f) low in
-    let s : 64 - f ≡ n + 32 = omega arith in
-    let a : number (padded n ys ++ padded 32 (drop n ys)) ≡ b * 2 ^ length (padded 32 (drop n ys)) + number (padded 32 (drop n ys)) = number-append (padded n ys) (padded 32 (drop n ys)) in
-    let a' : number (padded n ys ++ padded 32 (drop n ys)) ≡ b * 2 ^ 32 + half = rw (len, tail) at a in
-    let wanted : number (padded (64 - f) ys) ≡ b * 2 ^ 32 + half = ap (λ (k : ℕ). number (padded k ys)) s ∙ ap (λ (u : List Bool). number u) (padded-add n 32 ys) ∙ a' in
-    let p : 2 ^ (32 + f) ≡ 2 ^ 32 * 2 ^ f = pow-add 2 32 f in
-    let sum : b * 2 ^ (32 + f) + half * 2 ^ f ≡ (b * 2 ^ 32 + half) * 2 ^ f = rw p (omega arith) in
-    record {
-      fits = r.fits;
-      inside = omega (arith, left, inside, was);
-      window_is = ap (λ (k : ℕ). bit_or k (half * 2 ^ f % 2 ^ 64)) shifted ∙ ap (λ (k : ℕ). bit_or (b * 2 ^ (32 + f)) k) whole ∙ joined ∙ sum ∙ ap (λ (k : ℕ). k * 2 ^ f) (sym wanted);
-    }
-
--- the first window
-pub IsReader-new : (bytes : List ℕ) (first second : ℕ) → length bytes ≤ 2 ^ 60 → first ≡ number (padded 32 (drop (8 * 0) (bits bytes))) → second ≡ number (padded 32 (drop (8 * 4) (bits bytes))) →
-    IsReader bytes 0 (bit_or (first * 2 ^ 32 % 18446744073709551616) second)
-unfolding window_at
-IsReader-new bytes first second fits first_is second_is =
-    let all : List Bool = bits bytes in
-    let len : length (padded 32 (drop 32 all)) ≡ 32 = length-padded 32 (drop 32 all) in
-    let below : number (padded 32 (drop 32 all)) < 2 ^ length (padded 32 (drop 32 all)) = number-below (padded 32 (drop 32 all)) in
-    let small : second < 2 ^ 32 = rw (len, ← second_is) at below in
-    let len' : length (padded 32 all) ≡ 32 = length-padded 32 all in
-    let below' : number (padded 32 all) < 2 ^ length (padded 32 all) = number-below (padded 32 all) in
-    let small' : first < 2 ^ 32 = rw (len', ← first_is) at below' in
-    let whole : first * 2 ^ 32 % 2 ^ 64 ≡ first * 2 ^ 32 = shl_whole first 32 32 64 small' (omega arith) in
-    let joined : bit_or (first * 2 ^ 32) second ≡ first * 2 ^ 32 + second = or_shifted first 32 second small in
-    let a : number (padded 32 all ++ padded 32 (drop 32 all)) ≡ number (padded 32 all) * 2 ^ length (padded 32 (drop 32 all)) + number (padded 32 (drop 32 all)) = number-append (padded 32 all) (padded 32 (drop 32 all)) in
-    let a' : number (padded 32 all ++ padded 32 (drop 32 all)) ≡ first * 2 ^ 32 + second = rw (len, ← first_is, ← second_is) at a in
-    let wanted : number (padded 64 all) ≡ first * 2 ^ 32 + second = ap (λ (u : List Bool). number u) (padded-add 32 32 all) ∙ a' in
-    record {
-      fits = fits;
-      inside = omega arith;
-      window_is = ap (λ (k : ℕ). bit_or k second) whole ∙ joined ∙ omega (arith, wanted);
-    }
-
 -- ---- what the window decides
 
 -- all 64 bits of the window: the bits that were read but not taken, then zeros
@@ -181,15 +100,6 @@ window_bits-length left e h =
     let b : length (replicate e false) ≡ e = length-replicate e false in
     let c : length (padded (64 - e) left ++ replicate e false) ≡ length (padded (64 - e) left) + length (replicate e false) = length-append (padded (64 - e) left) (replicate e false) in
     omega arith
-
--- the window of a reader
-pub IsWindow-reader : (bytes : List ℕ) (offset window : ℕ) → IsReader bytes offset window → IsWindow bytes offset window (offset % 32)
-unfolding window_at
-IsWindow-reader bytes offset window r = record { short = omega arith; window_is = r.window_is }
-
--- and it has room for each word
-pub window_has_room : (code : CanonicalCode) → IsCode code → (offset : ℕ) → code.max_length + offset % 32 ≤ 64
-window_has_room code accepted offset = let most : code.max_length ≤ 32 = accepted.lengths.at_most in omega arith
 
 window_bits-number : (bytes : List ℕ) (offset window e : ℕ) → IsWindow bytes offset window e → number (window_bits (drop offset (bits bytes)) e) ≡ window
 unfolding window_bits

@@ -1,5 +1,5 @@
 -- The state of a reader by windows: the bits that were read but not taken, at the top of 64 bits.
-use Rattle.std.specs.Prelude.{ℕ, zero, suc, Bool, false, ◌≡◌, ◌+◌, ◌-◌, ◌*◌, ◌%◌, ◌^◌, ◌≤◌, List, [], ◌∷◌, length, drop}
+use Rattle.std.specs.Prelude.{ℕ, zero, suc, Bool, false, ◌≡◌, ◌+◌, ◌-◌, ◌*◌, ◌^◌, ◌≤◌, List, [], ◌∷◌, length, drop}
 use Rattle.szg_code.specs.Bits.{bits, number}
 
 -- the first n bits, padded with zeros if there are fewer
@@ -7,17 +7,6 @@ abbrev pub padded : ℕ → List Bool → List Bool
 padded zero bits = []
 padded (suc n) [] = false ∷ padded n []
 padded (suc n) (b ∷ bits) = b ∷ padded n bits
-
--- Bits are read 32 at a time, up to the end of the 32 bits after those that contain the offset. The window holds
--- the bits from the offset on, followed by zeros.
-unfoldable pub window_at : List Bool → ℕ → ℕ
-window_at bits offset = number (padded (64 - offset % 32) (drop offset bits)) * 2 ^ (offset % 32)
-
--- the fields of a reader are valid
-pub record IsReader (bytes : List ℕ) (offset window : ℕ) : Type 0 where
-  pub fits : length bytes ≤ 2 ^ 60
-  pub inside : offset ≤ 8 * length bytes
-  pub window_is : window ≡ window_at (bits bytes) offset
 
 -- A window holds the bits from an offset on, at the top of 64 bits; the last `spare` of these are zeros.
 pub record IsWindow (bytes : List ℕ) (offset window spare : ℕ) : Type 0 where
@@ -30,7 +19,7 @@ pub record HoldsBits (bytes : List ℕ) (offset window held : ℕ) : Type 0 wher
   pub room : held + spare ≤ 64
   pub is_window : IsWindow bytes offset window spare
 
--- the fields of a reader for bits that begin with words are valid
+-- the fields of a reader are valid
 pub record IsWordReader (bytes : List ℕ) (offset window held : ℕ) : Type 0 where
   pub fits : length bytes ≤ 2 ^ 60
   pub inside : offset ≤ 8 * length bytes

@@ -23,7 +23,6 @@ pub struct Code {
     bases: [u64; 32],
     starts: [u8; 256],
     two_words: Option<[TwoWords; 256]>,
-    is_word_by_word: bool,
 }
 
 impl Model for Code {
@@ -75,7 +74,6 @@ impl Code {
                     starts: header.starts(&bases),
                     bases,
                     two_words: None,
-                    is_word_by_word: false,
                     header,
                 };
                 Ok(code.with_two_words())
@@ -138,18 +136,12 @@ impl Code {
         code.with_two_words()
     }
 
-    /// Stores the first two words of each byte, if most bytes contain two words, and whether the code is read word by word.
+    /// Stores the first two words of each byte, if most bytes contain two words.
     fn with_two_words(self) -> Code
         ensures { result ≡ self }
     {
         let two_words = two_words_by_byte(&self);
-        let is_word_by_word = self.bases[0] <= MOSTLY_REACHED
-            || (self.header.lowest.len() <= 2 && two_words.is_none());
-        Code {
-            two_words,
-            is_word_by_word,
-            ..self
-        }
+        Code { two_words, ..self }
     }
 
     /// Returns whether the first two words of each byte are stored, so that `next_words` is worth its table look-up. They
@@ -219,63 +211,28 @@ impl Code {
 
     /// Returns the index of the least length whose base, shifted to the top of 64 bits, is at most the window. The
     /// shifted bases do not increase with the length, and neighbours may be equal; the first one counts.
+    ///
+    /// If `TABLE`, the search starts where the table of first bytes says. Otherwise it starts at one of the two least
+    /// lengths, by a comparison that isn't a branch: what comes next waits for no table and for no prediction.
     #[inline(always)]
-    pub(crate) fn reached_index(&self, window: u64) -> usize
+    pub(crate) fn reached_index<const TABLE: bool>(&self, window: u64) -> usize
         ensures accepted { IsCode self.now }
         ensures inside { result < length self.now.lowest }
         ensures reaches { shifted_base self.now 64 (self.now.min_length + result) ≤ window }
         ensures before { (k : ℕ) → k < result → window < shifted_base self.now 64 (self.now.min_length + k) }
     {
-        let start = usize::from(self.starts[(window >> 56) as usize]);
+        let start = if TABLE {
+            usize::from(self.starts[(window >> 56) as usize])
+        } else {
+            usize::from(window < self.bases[0])
+        };
         self.header.reached_index_from(&self.bases, start, window)
     }
 
-    /// `reached_index`, without its table: the lengths are tried from the least on. What comes next doesn't wait for a length
-    /// that a processor predicts.
-    #[inline(always)]
-    fn first_reached_index(&self, window: u64) -> usize
-        ensures accepted { IsCode self.now }
-        ensures inside { result < length self.now.lowest }
-        ensures reaches { shifted_base self.now 64 (self.now.min_length + result) ≤ window }
-        ensures before { (k : ℕ) → k < result → window < shifted_base self.now 64 (self.now.min_length + k) }
-    {
-        self.header.reached_index_from(&self.bases, 0, window)
-    }
-
-    /// `reached_index`, by its table if `TABLE`, and else without it.
-    #[inline(always)]
-    pub(crate) fn index_by<const TABLE: bool>(&self, window: u64) -> usize
-        ensures accepted { IsCode self.now }
-        ensures inside { result < length self.now.lowest }
-        ensures reaches { shifted_base self.now 64 (self.now.min_length + result) ≤ window }
-        ensures before { (k : ℕ) → k < result → window < shifted_base self.now 64 (self.now.min_length + k) }
-    {
-        if TABLE {
-            self.reached_index(window)
-        } else {
-            self.first_reached_index(window)
-        }
-    }
-
-    /// `reached_index`, by its table unless a processor can mostly predict a word's length.
-    #[inline(always)]
-    pub(crate) fn index_in(&self, window: u64) -> usize
-        ensures accepted { IsCode self.now }
-        ensures inside { result < length self.now.lowest }
-        ensures reaches { shifted_base self.now 64 (self.now.min_length + result) ≤ window }
-        ensures before { (k : ℕ) → k < result → window < shifted_base self.now 64 (self.now.min_length + k) }
-    {
-        if self.is_read_word_by_word() {
-            self.index_by::<false>(window)
-        } else {
-            self.index_by::<true>(window)
-        }
-    }
-
-    /// Returns whether a processor can mostly predict a word's length: at least seven of eight windows begin with a word of the
-    /// least length, or there are two lengths at most and no first two words of each byte are stored.
+    /// Returns whether words are decoded one by one, and their lengths found by comparing: at most one of 64 windows begins
+    /// with a word that is longer than the two least lengths, and the first two words of each byte are not stored.
     pub fn is_read_word_by_word(&self) -> bool {
-        self.is_word_by_word
+        self.bases[1] <= LEAST_WINDOWS && self.two_words.is_none()
     }
 
     /// Returns the number that the window's leading bits, whose number is the length at index `j`, represent as a symbol.
@@ -323,8 +280,8 @@ impl Code {
     }
 }
 
-/// The greatest base of the least length, shifted to the top of 64 bits, that seven of eight windows reach.
-const MOSTLY_REACHED: u64 = 1 << 61;
+/// The end of the least of 64 equal ranges of windows.
+const LEAST_WINDOWS: u64 = 1 << 58;
 
 /// Returns the word of a symbol, of 1 to 32 bits. None if the symbol has no word.
 pub fn word(code: &Code, s: u16) -> Option<Word>

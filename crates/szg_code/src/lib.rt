@@ -12,13 +12,11 @@ mod code_word;
 pub mod laws;
 mod reader;
 mod two_words;
-mod word_reader;
 mod writer;
 
 pub use canonical::{Code, word};
 pub use code_word::Word;
-pub use reader::{Bits, NextWords, next, next_words};
-pub use word_reader::{WordReader, next_word, next_word_if};
+pub use reader::{NextWords, WordReader, next_word, next_word_if, next_words};
 pub use writer::{BitBuf, put};
 
 /// Why a code is refused: the first fault in this order.

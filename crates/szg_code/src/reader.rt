@@ -1,10 +1,10 @@
-//! A reader that decodes words from borrowed bytes, by 64-bit windows as in de Man's probing code.
-ghost use Rattle.std.specs.Prelude.{◌≡◌, ◌+◌, ◌*◌, ◌^◌, ◌<◌, ◌≤◌, [], ◌++◌, length, slice_index, take, drop, IfSome, IfNone};
+//! A reader of words, by windows of 64 bits as in de Man's probing code.
+ghost use Rattle.std.specs.Prelude.{◌≡◌, ◌*◌, ◌^◌, ◌<◌, ◌≤◌, ◌%◌, ◌+◌, [], ◌++◌, IfNone, IfSome, length, take, drop};
 ghost use Rattle.szg_code.specs.Bits.{bits, number};
 ghost use Rattle.szg_code.specs.Spelling.{BeginsWithNoWord};
 ghost use Rattle.szg_code.specs.Cursor.{Cursor, TakesWord, TakesWords};
 ghost use Rattle.szg_code.specs.NextWords.{symbols_of};
-ghost use Rattle.szg_code.specs.Window.{padded};
+ghost use Rattle.szg_code.specs.Window.{HoldsBits, padded};
 
 use crate::bytes::byte_or_zero;
 use crate::canonical::Code;
@@ -12,41 +12,57 @@ use crate::two_words::TwoWords;
 use byteorder::{BigEndian, ByteOrder};
 use std::marker::Model;
 
-/// A bit reader over borrowed bytes, each byte's high bit first.
-///
-/// The window holds the bits from the current offset on, at the top of 64 bits. It is refilled by 32 bits at a
-/// time, so it always holds at least 33. Past the end of the bytes it holds zeros.
-#[derive(Drop)]
-pub struct Bits<'a> {
-    bytes: &'a [u8],
-    offset: u64,
-    window: u64,
+/// The number of bits that a window holds at least when it has just been read: eight bytes without the bits before the
+/// offset in the first byte.
+const FRESH: u64 = 57;
+
+/// The bits of a byte. Two words that are decoded at a step have no more.
+const BYTE: u64 = 8;
+
+/// A window of 64 bits.
+#[derive(Clone, Copy)]
+struct Window {
+    /// The bits from an offset on, first bit at the top.
+    bits: u64,
+    /// The window holds at least this many bits. It may hold more; then they are not used.
+    held: u64,
 }
 
-impl<'a> Model for Bits<'a> {
+/// A bit reader over borrowed bytes, each byte's high bit first.
+///
+/// The window is read anew when it may be too short for the longest word. A word counts as a longest one there, so the
+/// number of words between two such reads is always the same, and a processor can predict it.
+#[derive(Drop)]
+pub struct WordReader<'a> {
+    bytes: &'a [u8],
+    offset: u64,
+    window: Window,
+}
+
+impl<'a> Model for WordReader<'a> {
     ghost use Rattle.std.specs.Prelude.{take, drop};
     ghost use Rattle.szg_code.specs.Bits.{bits};
     ghost use Rattle.szg_code.specs.Cursor.{Cursor};
-    ghost use Rattle.szg_code.specs.Window.{IsReader};
+    ghost use Rattle.szg_code.specs.Window.{IsWordReader};
 
     ghost Value = { Cursor };
 
     ghost view = { λ reader. record { taken = take reader.offset (bits reader.bytes.now); left = drop reader.offset (bits reader.bytes.now) } };
 
-    ghost invariant = { λ reader. IsReader reader.bytes.now reader.offset reader.window };
+    ghost invariant = { λ reader. IsWordReader reader.bytes.now reader.offset reader.window.bits reader.window.held };
 }
 
-impl<'a> Bits<'a> {
+impl<'a> WordReader<'a> {
     /// Creates a reader at the first bit of at most 2^60 bytes.
-    pub fn new(bytes: &'a [u8]) -> Bits<'a>
+    pub fn new(bytes: &'a [u8]) -> WordReader<'a>
         requires { length bytes.now ≤ 2 ^ 60 }
         ensures taken { result.taken ≡ [] }
         ensures left { result.left ≡ bits bytes.now }
     {
-        Bits {
+        WordReader {
             bytes,
             offset: 0,
-            window: u64::from(read_u32_at(bytes, 0)) << 32 | u64::from(read_u32_at(bytes, 4)),
+            window: Window { bits: 0, held: 0 },
         }
     }
 
@@ -56,37 +72,11 @@ impl<'a> Bits<'a> {
     {
         self.offset
     }
-
-    /// Returns the number of bits left.
-    #[inline(always)]
-    fn count_left(&self) -> u64
-        ensures { result ≡ length self.now.left }
-    {
-        8 * self.bytes.len() as u64 - self.offset
-    }
-
-    /// Skips `count` of the remaining bits. When the offset passes a multiple of 32, the next 32 bits are read into
-    /// the window.
-    #[inline(always)]
-    fn skip(&mut self, count: u64)
-        requires short { count ≤ 32 }
-        requires inside { count ≤ length self.old.left }
-        ensures taken { self.new.taken ≡ self.old.taken ++ take count self.old.left }
-        ensures left { self.new.left ≡ drop count self.old.left }
-    {
-        let in_window = self.offset % 32 + count;
-        self.offset += count;
-        self.window <<= count;
-        if in_window >= 32 {
-            let at = 4 * (self.offset / 32) + 4;
-            self.window |= u64::from(read_u32_at(self.bytes, at as usize)) << (self.offset % 32);
-        }
-    }
 }
 
 /// Reads four bytes at offset `at` as a big-endian number, with zeros past the end.
 #[inline(always)]
-pub(crate) fn read_u32_at(bytes: &[u8], at: usize) -> u32
+fn read_u32_at(bytes: &[u8], at: usize) -> u32
     requires { at < 2 ^ 62 }
     ensures { result ≡ number (padded 32 (drop (8 * at) (bits bytes.now))) }
 {
@@ -102,23 +92,79 @@ pub(crate) fn read_u32_at(bytes: &[u8], at: usize) -> u32
     }
 }
 
-/// Decodes the word at the reader's offset, moves the reader past it, and returns its symbol.
-///
-/// None if the remaining bits do not begin with a word, or if the word would extend past the bytes; then the reader
-/// does not move. As in de Man's format, the word has the least length at which the number of the leading bits is
-/// at least the base.
+/// Reads eight bytes at offset `at` as a big-endian number, with zeros past the end.
 #[inline(always)]
-pub fn next(code: &Code, bits: &mut Bits) -> Option<u16>
-    ensures found { IfSome result (λ s. TakesWord code.now bits.old bits.new s) }
-    ensures none { IfNone result (BeginsWithNoWord code.now bits.old.left × (bits.new ≡ bits.old)) }
+fn read_u64_at(bytes: &[u8], at: usize) -> u64
+    requires { at < 2 ^ 61 }
+    ensures { result ≡ number (padded 64 (drop (8 * at) (bits bytes.now))) }
 {
-    let j = code.index_in(bits.window);
+    if at + 8 <= bytes.len() {
+        BigEndian::read_u64(&bytes[at..])
+    } else {
+        u64::from(read_u32_at(bytes, at)) << 32 | u64::from(read_u32_at(bytes, at + 4))
+    }
+}
+
+/// Returns a window from bit `offset` on that holds at least `count` bits: the given one, or one that is read anew.
+#[inline(always)]
+fn window_of(bytes: &[u8], offset: u64, window: Window, count: u64) -> Window
+    requires offset { offset ≤ 2 ^ 63 }
+    requires few { count ≤ 57 }
+    requires held { HoldsBits bytes.now offset window.bits window.held }
+    ensures held { HoldsBits bytes.now offset result.bits result.held }
+    ensures enough { count ≤ result.held }
+{
+    if window.held >= count {
+        return window;
+    }
+    Window {
+        bits: read_u64_at(bytes, (offset / 8) as usize) << (offset % 8),
+        held: FRESH,
+    }
+}
+
+/// Decodes the word at the reader's offset, moves the reader past it, and returns its symbol. The remaining bits must begin
+/// with a word.
+#[inline(always)]
+pub fn next_word(code: &Code, words: &mut WordReader) -> u16
+    requires { BeginsWithNoWord code.now words.old.left → ⊥ }
+    ensures { TakesWord code.now words.old words.new result }
+{
+    let longest = code.longest();
+    let window = window_of(words.bytes, words.offset, words.window, longest);
+    let j = code.reached_index::<false>(window.bits);
     let count = u64::from(code.min()) + j as u64;
-    if count > bits.count_left() {
+    let symbol = code.symbol_there(window.bits, j);
+    words.offset += count;
+    words.window = Window {
+        bits: window.bits << count,
+        held: window.held - longest,
+    };
+    symbol
+}
+
+/// Decodes the word at the reader's offset, moves the reader past it, and returns its symbol, as `next_word` does, but for any
+/// bits. None if the remaining bits do not begin with a word, or if the word would extend past the bytes; then the reader does
+/// not move. If `TABLE`, a word's length is found by the code's table of first bytes, else by comparing.
+#[inline(always)]
+pub fn next_word_if<const TABLE: bool>(code: &Code, words: &mut WordReader) -> Option<u16>
+    ensures found { IfSome result (λ s. TakesWord code.now words.old words.new s) }
+    ensures none { IfNone result (BeginsWithNoWord code.now words.old.left × (words.new ≡ words.old)) }
+{
+    let longest = code.longest();
+    let window = window_of(words.bytes, words.offset, words.window, longest);
+    let j = code.reached_index::<TABLE>(window.bits);
+    let count = u64::from(code.min()) + j as u64;
+    let end = words.offset + count;
+    if end > 8 * words.bytes.len() as u64 {
         return None;
     }
-    let symbol = code.symbol_in(bits.window, j)?;
-    bits.skip(count);
+    let symbol = code.symbol_in(window.bits, j)?;
+    words.offset = end;
+    words.window = Window {
+        bits: window.bits << count,
+        held: window.held - longest,
+    };
     Some(symbol)
 }
 
@@ -134,32 +180,36 @@ pub enum NextWords {
 /// Decodes the next two words if the next byte contains both, and moves the reader past them. Otherwise returns None,
 /// and the reader does not move.
 #[inline(always)]
-fn next_two(code: &Code, bits: &mut Bits) -> Option<TwoWords>
-    ensures found { IfSome result (λ words. (middle : Cursor) × TakesWord code.now bits.old middle words.first × TakesWord code.now middle bits.new words.second) }
-    ensures none { IfNone result (bits.new ≡ bits.old) }
+fn next_two(code: &Code, words: &mut WordReader) -> Option<TwoWords>
+    ensures found { IfSome result (λ two. (middle : Cursor) × TakesWord code.now words.old middle two.first × TakesWord code.now middle words.new two.second) }
+    ensures none { IfNone result (words.new ≡ words.old) }
 {
-    let words = code.two_words_in(bits.window);
-    let both = u64::from(words.bits);
-    if both == 0 || both > bits.count_left() {
+    let window = window_of(words.bytes, words.offset, words.window, BYTE);
+    let two = code.two_words_in(window.bits);
+    let both = u64::from(two.bits);
+    let end = words.offset + both;
+    if both == 0 || end > 8 * words.bytes.len() as u64 {
         return None;
     }
-    bits.skip(both);
-    Some(words)
+    words.offset = end;
+    words.window = Window {
+        bits: window.bits << both,
+        held: window.held - BYTE,
+    };
+    Some(two)
 }
 
 /// Decodes one or two words at the reader's offset, moves the reader past them, and returns their symbols. Two words are
-/// decoded at a step if both are in the next byte.
-///
-/// None if the remaining bits do not begin with a word, or if the word would extend past the bytes; then the reader
-/// does not move.
+/// decoded at a step if both are in the next byte. None if the remaining bits do not begin with a word; then the reader does
+/// not move.
 #[inline(always)]
-pub fn next_words(code: &Code, bits: &mut Bits) -> Option<NextWords>
-    ensures found { IfSome result (λ words. TakesWords code.now bits.old bits.new (symbols_of words)) }
-    ensures none { IfNone result (BeginsWithNoWord code.now bits.old.left × (bits.new ≡ bits.old)) }
+pub fn next_words(code: &Code, words: &mut WordReader) -> Option<NextWords>
+    ensures found { IfSome result (λ taken. TakesWords code.now words.old words.new (symbols_of taken)) }
+    ensures none { IfNone result (BeginsWithNoWord code.now words.old.left × (words.new ≡ words.old)) }
 {
-    if let Some(words) = next_two(code, bits) {
-        return Some(NextWords::Two(words.first, words.second));
+    if let Some(two) = next_two(code, words) {
+        return Some(NextWords::Two(two.first, two.second));
     }
-    let symbol = next(code, bits)?;
+    let symbol = next_word_if::<true>(code, words)?;
     Some(NextWords::One(symbol))
 }

@@ -3,7 +3,7 @@ ghost use Rattle.std.specs.Prelude.{◌≡◌, ◌≤◌, IfSome};
 ghost use Rattle.szg_code.specs.TwoWords.{ContainsTwoWords, HasTwoWords};
 
 use crate::canonical::Code;
-use crate::reader::{Bits, next};
+use crate::reader::{WordReader, next_word_if};
 
 /// The symbols of the first two words of a byte, and the number of bits of both together. 0 bits if the byte does not
 /// contain two whole words.
@@ -26,17 +26,17 @@ fn two_words_of(code: &Code, byte: u8) -> TwoWords
     ensures { ContainsTwoWords code.now byte result }
 {
     let bytes = [byte];
-    let mut bits = Bits::new(&bytes);
-    let Some(first) = next(code, &mut bits) else {
+    let mut words = WordReader::new(&bytes);
+    let Some(first) = next_word_if::<true>(code, &mut words) else {
         return NO_WORDS;
     };
-    let Some(second) = next(code, &mut bits) else {
+    let Some(second) = next_word_if::<true>(code, &mut words) else {
         return NO_WORDS;
     };
     TwoWords {
         first,
         second,
-        bits: bits.place() as u8,
+        bits: words.place() as u8,
     }
 }
 

@@ -5,6 +5,6 @@ use Rattle.szg_code.proofs.reader.next_words.Goals as goal
 
 pub returns-in_err-symbol-clause-none : goal.returns-in_err-symbol-clause-none
 returns-in_err-symbol-clause-none c =
-    let same : c.next_two.new.bits ≡ c.args.bits.now = c.in_default.ensures.none in
+    let same : c.next_two.new.words ≡ c.args.words.now = c.in_default.ensures.none in
     let none = c.in_err-symbol.ensures.none in
     rw c.from_residual.ensures (subst (λ (k : Cursor). BeginsWithNoWord c.args.code.now k.left) same none.0, none.1 ∙ same)

@@ -5,7 +5,7 @@ use Rattle.szg_code.specs.Bits.{number}
 use Rattle.szg_code.specs.Window.{padded}
 use Rattle.szg_code.proofs.ByteBits.{drop-bits}
 use Rattle.szg_code.proofs.Windows.{number-padded_bits, number-halves}
-use Rattle.szg_code.proofs.word_reader.read_u64_at.Goals as goal
+use Rattle.szg_code.proofs.reader.read_u64_at.Goals as goal
 
 pub returns-then-at-bytes : goal.returns-then-at-bytes
 returns-then-at-bytes c =
