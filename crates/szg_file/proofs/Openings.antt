@@ -6,13 +6,8 @@ pub mod FrontLaws
 pub mod FrontValid
 pub mod FrontTables
 pub mod OpenedLaws
-pub mod PassedLaws
 pub mod OutlinedLaws
 pub mod PlacingLaws
 pub mod WantedLaws
 pub mod KeptFronts
 pub mod KeptTables
-pub mod InPlaceLaws
-pub mod InPlaceValues
-pub mod EndLaws
-pub mod StandLaws

@@ -30,9 +30,7 @@ pub mod FrontRead
 pub mod FrontTable
 pub mod Fetching
 pub mod Located
-pub mod Passed
 pub mod Index
 pub mod FrontInput
 pub mod Streaming
-pub mod InPlace
 pub mod Kept

@@ -25,7 +25,7 @@ pub struct Slotted<'a> {
 
 /// Returns the number of the slot of a part and side, from 0. It compares all slots, from the last to the first, and branches
 /// on none of them, since a processor can't predict which one is found.
-pub(crate) fn slot_number(slots: &[Slot], part: u8, side: u8) -> Option<usize>
+pub fn slot_number(slots: &[Slot], part: u8, side: u8) -> Option<usize>
     ensures { result ≡ position (λ slot. nat_eq slot.part part && nat_eq slot.side side) slots.now }
 {
     let mut number = slots.len();

@@ -3,8 +3,6 @@
 pub(crate) mod fetching;
 pub(crate) mod forward;
 pub(crate) mod front_table;
-pub(crate) mod in_place;
-pub(crate) mod passed;
 mod placing;
 
 ghost use Rattle.std.specs.Prelude.{◌≡◌, IsSome, IfOk, IfErr};

@@ -69,14 +69,14 @@ module _ (material : Sides) (kind : Kind) where
     begins_file content begins = record { whole = seen.0; kept = seen.1; begins = front_begins seen.0 begun ended h.bytes content start h.answer.0 begins.begins }
 
     -- a file of this size that begins with it
-    pub front_known : ended.place ≤ size → (all : Bool) × (content : List ℕ) × (length content ≡ size) × BeginsWithKept all material kind (front_read r) ended.place content
-    front_known enough =
+    pub front_content : ended.place ≤ size → (content : List ℕ) × (length content ≡ size) × BeginsWithKept all material kind (front_read r) ended.place content
+    front_content enough =
         let bytes : List ℕ = h.bytes in
         let rest : List ℕ = replicate (size - length bytes) 0 in
         let long : length (bytes ++ rest) ≡ length bytes + length rest = length-append bytes rest in
         let more : length rest ≡ size - length bytes = length-replicate (size - length bytes) 0 in
         let whole : length (bytes ++ rest) ≡ size = omega (arith, at_end, long, more, enough) in
-        (all, bytes ++ rest, whole, begins_file (bytes ++ rest) (record { long = whole; begins = take_front (length bytes) bytes rest refl }))
+        (bytes ++ rest, whole, begins_file (bytes ++ rest) (record { long = whole; begins = take_front (length bytes) bytes rest refl }))
 
     -- a table was made of it
     pub front_opened : (t : FrontKept) → ended.place ≤ size → t.index.material ≡ material → t.index.kind ≡ kind →
@@ -138,3 +138,26 @@ module _ (material : Sides) (kind : Kind) where
   pub front_verdict : {R : Type 0} (device : Ghosts R) (size : ℕ) (old new : R) (r : Result (FrontKept × ℕ) ReadFault) → IsFrontRead device material kind size old new r →
       IfSome (device.coming old) (λ all. length all ≡ size → IsFrontVerdict material kind all r)
   front_verdict device size old new r h = verdict_on h.bytes size (device.coming old) (device.coming new) r h.taken.bytes_gone h.stated
+
+-- ---- a front that was read from a device
+
+-- what each file of this size that begins with these bytes satisfies, the bytes that were coming do
+coming_begins : (P : List ℕ → Type 0) (size : ℕ) (bytes : List ℕ) (coming coming' : Option (List ℕ)) → Consumes coming coming' bytes →
+    ((content : List ℕ) → length content ≡ size → take (length bytes) content ≡ bytes → P content) → IfSome coming (λ content. length content ≡ size → P content)
+coming_begins P size bytes None coming' gone h = tt
+coming_begins P size bytes (Some all) None gone h = absurd gone
+coming_begins P size bytes (Some all) (Some rest) gone h = λ long. h all long (ap (λ (z : List ℕ). take (length bytes) z) gone ∙ take_front (length bytes) bytes rest refl)
+
+pub coming_front : {R : Type 0} (P : List ℕ → Type 0) (material : Sides) (kind : Kind) (device : Ghosts R) (r : read.FrontRead) (size : ℕ) (begun ended : ReaderState) (old new : R) → begun.place ≡ 0 →
+    Reading (front_field material kind) front_read begun ended device old new (Ok r) →
+    ((content : List ℕ) → length content ≡ size → BeginsWithFront material kind (front_read r) ended.place content → P content) → IfSome (device.coming old) (λ content. length content ≡ size → P content)
+coming_front P material kind device r size begun ended old new start h one =
+    coming_begins P size h.bytes (device.coming old) (device.coming new) h.taken.bytes_gone
+    (λ content long begins. one content long (front_begins material kind (front_read r) begun ended h.bytes content start h.answer.0 begins))
+
+-- ---- of bytes in memory
+
+pub front_fault : (material : Sides) (kind : Kind) (content : List ℕ) (fault : ReadFault) → IsFrontVerdict material kind content (Err fault) → (fault ≡ Device → ⊥) → IsFrontFault (verdict (unread_file material kind) 0 content) fault
+front_fault material kind content (Refused place reason) h quiet = h
+front_fault material kind content Device h quiet = absurd (quiet refl)
+front_fault material kind content Memory h quiet = tt

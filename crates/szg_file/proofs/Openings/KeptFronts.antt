@@ -1,22 +1,27 @@
 -- A front without the block lengths that no value needs: its subtables, their blocks and their values are those of the whole front.
-use Rattle.std.proofs.Common.{◌≡◌, ℕ, zero, suc, ◌<◌, ◌≤◌, Bool, true, false, List, [], ◌∷◌, length, map, refl, sym, ap, subst, ◌∙◌, arith, Option, Some, None}
+use Rattle.std.proofs.Common.{◌≡◌, ℕ, zero, suc, ◌+◌, ◌-◌, ◌<◌, ◌≤◌, inl, inr, Bool, true, false, List, [], ◌∷◌, length, map, refl, sym, ap, subst, ◌∙◌, arith, Option, Some, None}
 use Rattle.std.specs.Prelude.{IfSome, slice_get}
+use Rattle.std.proofs.lemmas.Bool.{cases_lt}
 use Rattle.szg_values.specs.declared.Kind.{Kind}
 use Rattle.szg_block.specs.Block.{block_at}
 use Rattle.szg_block.specs.BlocksTrait.{bytes_at}
-use Rattle.szg_block.specs.Kept.{CanLocate, IsLocatable}
+use Rattle.szg_block.specs.Kept.{kept_lengths, CanLocate, IsLocatable}
 use Rattle.szg_block.specs.Layout.{Layout}
 use Rattle.szg_block.specs.Sound.{IsShapedLayout}
 use Rattle.szg_block.specs.Steps.{Location, block_location}
-use Rattle.szg_block.specs.Subtable.{HasFlagOf, IsHeaded}
+use Rattle.szg_block.specs.Subtable.{layout_of as held_layout, HasFlagOf, IsHeaded}
 use Rattle.szg_block.specs.declared.Sub.{Sub}
 use Rattle.szg_block.specs.declared.Sub.TheVariants.{Constant, Pairs}
 use Rattle.szg_block.proofs.Deciding.{has_total-true, first_bad_entry-None}
+use Rattle.szg_block.proofs.Kept.{kept-done, kept-more, kept-none}
 use Rattle.szg_block.proofs.KeptLayouts.{kept_block_location, kept_block_values, kept_locates, kept_spelled, spelled_kept, whole_locates}
 use Rattle.szg_file.specs.Blocks.{with_blocks}
-use Rattle.szg_file.specs.Contents.{Slot, Subtable, constant, pairs, layout_of}
+use Rattle.szg_file.specs.Accepted.{SideBySide}
+use Rattle.szg_file.specs.Contents.{Slot, Subtable, constant, pairs, layout_of, slots}
 use Rattle.szg_file.specs.Fetching.{NamesBadBlock}
 use Rattle.szg_file.specs.File.{Begun, flags_of}
+use Rattle.szg_file.specs.FrontTable.{FrontKept, IsFrontOf, KeepsOnlyNeeded}
+use Rattle.szg_file.specs.Index.{slots_in}
 use Rattle.szg_file.specs.Kept.{kept_begun, kept_measured, kept_of, kept_sub, kept_subs}
 use Rattle.szg_file.specs.Placed.{whole_sub}
 use Rattle.szg_file.specs.Unread.{blocks_count, blocks_end, blocks_first, unread_end, unread_subs, IsDecoded, IsUnread}
@@ -24,7 +29,9 @@ use Rattle.szg_file.specs.Wanted.{IsSpelledBy, wanted_block}
 use Rattle.szg_file.specs.declared.opened.fetching.FetchFault.{FetchFault}
 use Rattle.szg_file.specs.declared.opened.fetching.FetchFault.TheVariants.{Block, Source}
 use Rattle.szg_file.proofs.Grammar.KeptLaws.{slot_of}
+use Rattle.szg_file.specs.declared.reading.dropping.PlacedSub.{PlacedSub}
 use Rattle.szg_file.proofs.Readers.PlacedSubs.{placed_at}
+use Rattle.szg_file.proofs.Tables.TableFinds.{side_lengths}
 
 -- ---- the offsets of the blocks
 
@@ -183,3 +190,44 @@ module _ (slot : Slot) (s : Subtable) (i : ℕ) (below : i < slot.size) where
   pub whole_spelled : (all : Bool) (kept : Subtable) → kept ≡ kept_sub all slot.size s → (chunk : List ℕ) (stated : Option ℕ) → IsSpelledBy chunk kept i stated → IsSpelledBy chunk s i stated
   whole_spelled true kept is chunk stated h = subst (λ (t : Subtable). IsSpelledBy chunk t i stated) is h
   whole_spelled false kept is chunk stated h = fewer_spelled slot.size i s chunk stated below (subst (λ (t : Subtable). IsSpelledBy chunk t i stated) is h)
+
+-- ---- no other lengths are kept
+
+kept_again : (size : ℕ) (lengths : List ℕ) → kept_lengths size (kept_lengths size lengths) ≡ kept_lengths size lengths
+kept_again size [] = ap (kept_lengths size) (kept-none size)
+kept_again size (n ∷ lengths) = elim (cases_lt 0 size) [
+  | inl some ↦
+      let here = kept-more size n lengths some in
+      ap (kept_lengths size) here ∙ kept-more size n (kept_lengths (size - (n + 1)) lengths) some ∙ ap (λ (l : List ℕ). n ∷ l) (kept_again (size - (n + 1)) lengths) ∙ sym here
+  | inr none ↦ let here = kept-done size (n ∷ lengths) none in ap (kept_lengths size) here ∙ kept-none size ∙ sym here
+]
+
+abbrev KeepsIn : ℕ → Option Layout → Type 0
+KeepsIn size layout = IfSome layout (λ layout. kept_lengths size layout.lengths ≡ layout.lengths)
+
+keeps_in : (size : ℕ) (s : Subtable) → KeepsIn size (layout_in (kept_of size s))
+keeps_in size (constant flags byte) = tt
+keeps_in size (pairs head sparse lengths packed) = kept_again size lengths
+
+keeps_one : (size : ℕ) (content : List ℕ) (sub : Sub) (first : ℕ) (s : Subtable) → whole_sub content (placed_at sub first) ≡ kept_of size s → KeepsIn size (held_layout sub)
+keeps_one size content (Constant flags byte) first s is = tt
+keeps_one size content (Pairs flags block_bits span_bits extra blocks code dict sparse lengths packed) first s is = subst (λ (t : Subtable). KeepsIn size (layout_in t)) (sym is) (keeps_in size s)
+
+keeps_each : (content : List ℕ) (slots : List Slot) (subtables : List Subtable) (subs : List PlacedSub) → length slots ≡ length subtables → map (whole_sub content) subs ≡ kept_subs false slots subtables →
+    SideBySide (λ (slot : Slot) (placed : PlacedSub). KeepsIn slot.size (held_layout placed.sub)) slots subs
+keeps_each content [] subtables [] many is = tt
+keeps_each content [] [] (placed ∷ subs) many is = absurd (cc is)
+keeps_each content [] (s ∷ subtables) (placed ∷ subs) many is = absurd (omega (arith, many))
+keeps_each content (slot ∷ slots) [] subs many is = absurd (omega (arith, many))
+keeps_each content (slot ∷ slots) (s ∷ subtables) [] many is = absurd (cc is)
+keeps_each content (slot ∷ slots) (s ∷ subtables) (placed ∷ subs) many is =
+    let here : whole_sub content placed ≡ kept_of slot.size s = cc is in
+    let rest : map (whole_sub content) subs ≡ kept_subs false slots subtables = cc is in
+    (keeps_one slot.size content placed.sub placed.first s here, keeps_each content slots subtables subs (omega (arith, many)) rest)
+
+pub keeps_needed : (kept : FrontKept) (content : List ℕ) (h : IsFrontOf kept content) → h.all ≡ false → KeepsOnlyNeeded kept
+keeps_needed kept content h fewer =
+    let of : List Slot = slots h.table.material h.table.kind h.table.parts in
+    let are : map (whole_sub content) kept.subs ≡ kept_subs false of h.table.subtables = h.subs_are ∙ ap (λ (all : Bool). kept_subs all of h.table.subtables) fewer in
+    subst (λ (l : List Slot). SideBySide (λ (slot : Slot) (placed : PlacedSub). KeepsIn slot.size (held_layout placed.sub)) l kept.subs) (ap slots_in (sym h.index_is))
+    (keeps_each content of h.table.subtables kept.subs (side_lengths IsUnread of h.table.subtables h.unread) are)

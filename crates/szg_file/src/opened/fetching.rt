@@ -36,7 +36,7 @@ pub struct ByteRange {
 
 /// The location of a value in a block, and the offset and the length of the block.
 #[derive(Clone, Copy)]
-pub(crate) struct BlockSpot {
+pub struct BlockSpot {
     pub value: ValueLocation,
     pub offset: u64,
     pub count: u64,

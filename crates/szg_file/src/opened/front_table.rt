@@ -1,14 +1,13 @@
 //! Tables opened by their front alone: headers, maps, sparse indexes and block lengths are read and checked. A
 //! block is verified when it is fetched.
-ghost use Rattle.std.specs.Prelude.{ℕ, Bool, List, ◌≡◌, ◌≤◌, ◌<◌, ◌^◌, [], IfErr, IfOk, IfSome, IsErrOf, IsTrue, length, map};
+ghost use Rattle.std.specs.Prelude.{ℕ, Bool, false, List, ◌≡◌, ◌≤◌, ◌<◌, ◌^◌, [], IfErr, IfOk, IfSome, IsErrOf, IsTrue, length, map};
 ghost use Rattle.szg_io.specs.Device.{HasFailed};
 ghost use Rattle.szg_file.specs.Contents.{slots};
 ghost use Rattle.szg_file.specs.Format.{verdict};
 ghost use Rattle.szg_file.specs.FrontInput.{IsFrontFault, IsFrontRead, IsFrontVerdict};
 ghost use Rattle.szg_file.specs.FrontRead.{front_read};
-ghost use Rattle.szg_file.specs.FrontTable.{IsFrontOf};
+ghost use Rattle.szg_file.specs.FrontTable.{IsFrontOf, IsWholeFront, KeepsOnlyNeeded};
 ghost use Rattle.szg_file.specs.Held.{part_of};
-ghost use Rattle.szg_file.specs.InPlace.{IsWholeFront};
 ghost use Rattle.szg_file.specs.Kept.{BeginsWithKept};
 ghost use Rattle.szg_file.specs.Unread.{BeginsWithFront, unread_file};
 
@@ -82,6 +81,15 @@ impl FrontTable {
     {
         self.ending
     }
+
+    /// Returns the table's index, and its subtables in file order without their blocks.
+    pub fn into_parts(self) -> (TableIndex, Vec<PlacedSub>)
+        ensures index { result.0 ≡ self.index }
+        ensures subs { result.1.items ≡ self.subs }
+    {
+        let FrontTable { index, subs, .. } = self;
+        (index, subs)
+    }
 }
 
 /// Returns the table of a front that was read from the first `place` bytes of a file of `size` bytes. Errors: `Truncated`
@@ -101,6 +109,7 @@ fn front_table(
     ensures material { IfOk result (λ t. t.index.material ≡ material) }
     ensures kind { IfOk result (λ t. t.index.kind ≡ kind) }
     ensures table { IfOk result (λ t. (all : Bool) (content : List ℕ) → length content ≡ size → BeginsWithKept all material kind (front_read read) place content → IsFrontOf t content) }
+    ensures lengths { IfOk result (λ t. (content : List ℕ) → length content ≡ size → BeginsWithKept false material kind (front_read read) place content → KeepsOnlyNeeded t) }
     ensures whole { IfOk result (λ t. (content : List ℕ) → length content ≡ size → BeginsWithFront material kind (front_read read) place content → IsWholeFront t place content) }
     ensures refused { IfErr result (λ fault. (all : Bool) (content : List ℕ) → length content ≡ size → BeginsWithKept all material kind (front_read read) place content → IsFrontFault (verdict (unread_file material kind) 0 content) fault) }
     ensures never { IsErrOf result ReadFault.Device → ⊥ }
@@ -132,7 +141,7 @@ fn front_table(
 
 /// Opens a table by its front as `open_front` does. Keeps all block lengths if `all`, and otherwise those of the blocks that
 /// begin below their subtable's number of positions.
-pub(crate) fn open_front_with<R: Input>(
+pub fn open_front_with<R: Input>(
     alloc: Global,
     material: Material,
     kind: Kind,
@@ -142,6 +151,7 @@ pub(crate) fn open_front_with<R: Input>(
 ) -> Result<(FrontTable, u64), ReadFault>
     requires first { R.moved input.old ≡ [] }
     ensures verdict { IfSome (R.coming input.old) (λ content. length content ≡ size → IsFrontVerdict material kind content result) }
+    ensures lengths { all ≡ false → IfOk result (λ opened. KeepsOnlyNeeded opened.0) }
     ensures whole { IsTrue all → IfOk result (λ opened. IfSome (R.coming input.old) (λ content. length content ≡ size → IsWholeFront opened.0 opened.1 content)) }
     ensures read { IsFrontRead R.Input material kind size input.old input.new result }
     ensures device { IsErrOf result ReadFault.Device → HasFailed (R.failures input.old) (R.failures input.new) (R.interrupted input.new) }
@@ -178,7 +188,8 @@ pub fn open_front<R: Input>(
     requires first { R.moved input.old ≡ [] }
     // If the reader specifies its bytes, and they are all of the file, the result is the verdict on them.
     ensures verdict { IfSome (R.coming input.old) (λ content. length content ≡ size → IsFrontVerdict material kind content result) }
-    // In any case: the bytes that were read.
+    // In any case: which lengths are kept, and the bytes that were read.
+    ensures lengths { IfOk result (λ opened. KeepsOnlyNeeded opened.0) }
     ensures read { IsFrontRead R.Input material kind size input.old input.new result }
     ensures device { IsErrOf result ReadFault.Device → HasFailed (R.failures input.old) (R.failures input.new) (R.interrupted input.new) }
     ensures may_fail { IsErrOf result ReadFault.Device → IsTrue (R.may_fail input.old) }

@@ -68,7 +68,8 @@ fn read_sub<R: Input>(
     Ok(sub)
 }
 
-pub(crate) fn is_constant(sub: &Sub) -> bool
+/// Returns whether the subtable is constant, so that it has no blocks.
+pub fn is_constant(sub: &Sub) -> bool
     ensures { IsTrue result ↔ (layout_of sub.now ≡ None) }
 {
     match sub {
@@ -121,7 +122,7 @@ fn take_packed<R: Input>(
 }
 
 /// Returns the number of bytes of each block, 0 for a constant subtable.
-pub(crate) fn block_bytes(sub: &Sub) -> u64
+pub fn block_bytes(sub: &Sub) -> u64
     requires { IfSome (layout_of sub.now) (λ layout. layout.block_bits ≤ 18) }
     ensures bytes { IfSome (layout_of sub.now) (λ layout. result ≡ 2 ^ layout.block_bits) }
     ensures none { IfNone (layout_of sub.now) (result ≡ 0) }

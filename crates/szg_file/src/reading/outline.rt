@@ -33,7 +33,8 @@ pub struct Outline {
 }
 
 /// Reads a whole file. Each block is read into the buffer, which grows to the longest. The values that the sink wants
-/// are handed to it in file order. Keeps the block lengths that `read_front` keeps. Errors: as `read`; `Memory` too if the sink takes no more values.
+/// are handed to it in file order. Keeps the block lengths that `read_front` keeps. Errors: as `read`; `Memory` too if
+/// the sink takes no more values.
 pub(crate) fn read_outline<R: Input, W, K: ValueSink<W>>(
     alloc: Global,
     material: &Material,

@@ -1,12 +1,13 @@
-use Rattle.std.proofs.Common.{true, ◌≡◌, ◌+◌, ◌≤◌, ◌∙◌, ℕ, List, length, map, refl, sym, ap, subst, arith}
+use Rattle.std.proofs.Common.{true, false, ◌≡◌, ◌+◌, ◌≤◌, ◌∙◌, ℕ, List, length, map, refl, sym, ap, subst, arith}
 use Rattle.szg_file.specs.Contents.{gap}
 use Rattle.szg_file.specs.File.{flags_of}
 use Rattle.szg_file.specs.FrontRead.{front_read}
 use Rattle.szg_file.specs.Held.{subtable_of}
-use Rattle.szg_file.specs.Index.{IsIndex, index_with}
+use Rattle.szg_file.specs.Index.{Index, IsIndex, index_with}
+use Rattle.szg_file.specs.Unread.{BeginsWithFront}
 use Rattle.szg_file.specs.declared.reading.dropping.PlacedSub.{PlacedSub}
-use Rattle.szg_file.proofs.Openings.EndLaws.{end_at}
 use Rattle.szg_file.proofs.Openings.FrontTables.{front_index, front_kept, front_short}
+use Rattle.szg_file.proofs.Openings.KeptFronts.{keeps_needed}
 use Rattle.szg_file.proofs.opened.front_table.front_table.Goals as goal
 
 pub returns-then-size-ending-clause-refused : goal.returns-then-size-ending-clause-refused
@@ -49,5 +50,15 @@ returns-clause-whole c = λ content long h.
     record {
       front = seen.0;
       whole = seen.1;
-      lists = end_at c.args.material c.args.kind (front_read c.args.read) c.args.place content h _ (c.in_ok-placed.ensures.subs content);
+      read = front_read c.args.read;
+      begins = subst (λ (x : Index). BeginsWithFront x.material x.kind (front_read c.args.read) c.args.place content) (sym (c.index_of_placed-index.ensures ∙ ap (λ (l : List PlacedSub). index_with c.args.material c.args.kind (front_read c.args.read).parts (map (λ held. flags_of (subtable_of held.sub)) l) (front_read c.args.read).maps) c.deref.ensures.value)) h;
+      subs_are = c.in_ok-placed.ensures.subs content;
     }
+
+pub returns-clause-lengths : goal.returns-clause-lengths
+returns-clause-lengths c = λ content long h.
+    let end = c.in_ok-placed.ensures.end in
+    let at = ap (λ (k : ℕ). c.in_ok-placed.placed.end + k) c.padding_to_64.ensures.gap ∙ ap (λ (k : ℕ). k + gap 64 k) end in
+    let seen = front_kept c.args.material c.args.kind h.whole c.args.place content h.begins false (front_read c.args.read) h.kept _ refl at (omega (arith, long)) (c.index_of_placed-index.ensures ∙ ap (λ (l : List PlacedSub). index_with c.args.material c.args.kind (front_read c.args.read).parts (map (λ held. flags_of (subtable_of held.sub)) l) (front_read c.args.read).maps) c.deref.ensures.value) long (omega (arith, c.ranges.size.fits)) (c.in_ok-placed.ensures.subs content)
+    (c.in_ok-placed.ensures.fits content (omega (arith, long))) in
+    keeps_needed _ content seen.0 seen.1

@@ -1,13 +1,12 @@
 use Rattle.std.proofs.Common.{◌≡◌, Bool, subst, arith, Ok, Err}
 use Rattle.std.proofs.lemmas.Result.{err_from_is_err_and}
 use Rattle.szg_file.specs.FrontRead.{front_read}
-use Rattle.szg_file.specs.InPlace.{IsWholeFront}
-use Rattle.szg_file.specs.Kept.{kept_front, ReadingOf}
+use Rattle.szg_file.specs.FrontTable.{IsWholeFront}
+use Rattle.szg_file.specs.Kept.{kept_front, BeginsWithKept, ReadingOf}
 use Rattle.szg_file.specs.Unread.{FrontRead, front_field}
 use Rattle.szg_file.specs.declared.fault.Reason.TheVariants.{Truncated}
 use Rattle.szg_file.specs.declared.fault.ReadFault.TheVariants.{Refused}
-use Rattle.szg_file.proofs.Openings.EndLaws.{coming_front}
-use Rattle.szg_file.proofs.Openings.FrontInputs.{front_known, front_late, front_longer, front_opened, front_stopped, front_verdict}
+use Rattle.szg_file.proofs.Openings.FrontInputs.{coming_front, front_content, front_late, front_longer, front_opened, front_stopped, front_verdict}
 use Rattle.szg_file.proofs.Readers.KeptReads.{fault_seen, whole_reading}
 use Rattle.szg_file.proofs.opened.front_table.open_front_with.Goals as goal
 
@@ -35,7 +34,8 @@ returns-then-size-place-clause-verdict g c =
 
 pub front_table-requires-clause-known : goal.front_table-requires-clause-known
 front_table-requires-clause-known g c =
-    front_known c.args.material c.args.kind g.R.Input c.args.all c.in_ok-read.read c.args.size c.new-state.result c.read_front.new.state c.args.input.now c.read_front.new.input c.new-state.ensures.place c.in_ok-read.ensures.front (omega arith)
+    let known = front_content c.args.material c.args.kind g.R.Input c.args.all c.in_ok-read.read c.args.size c.new-state.result c.read_front.new.state c.args.input.now c.read_front.new.input c.new-state.ensures.place c.in_ok-read.ensures.front (omega arith) in
+    (c.args.all, known.0, known.1, known.2)
 
 pub returns-in_err-table-clause-verdict : goal.returns-in_err-table-clause-verdict
 returns-in_err-table-clause-verdict g c =
@@ -62,3 +62,8 @@ returns-clause-whole g c = λ all.
     let seen = subst (λ (kept : Bool). ReadingOf (front_field c.args.material c.args.kind) (λ whole r. front_read r ≡ kept_front kept whole) c.new-state.result c.read_front.new.state g.R.Input c.args.input.now c.read_front.new.input (Ok c.in_ok-read.read)) all c.in_ok-read.ensures.front in
     coming_front (λ content. IsWholeFront c.in_ok-table.table c.read_front.new.state.place content) c.args.material c.args.kind g.R.Input c.in_ok-read.read c.args.size c.new-state.result c.read_front.new.state c.args.input.now c.read_front.new.input
     c.new-state.ensures.place (whole_reading (front_field c.args.material c.args.kind) front_read c.in_ok-read.read seen) c.in_ok-table.ensures.whole
+
+pub returns-clause-lengths : goal.returns-clause-lengths
+returns-clause-lengths g c = λ fewer.
+    let known = front_content c.args.material c.args.kind g.R.Input c.args.all c.in_ok-read.read c.args.size c.new-state.result c.read_front.new.state c.args.input.now c.read_front.new.input c.new-state.ensures.place c.in_ok-read.ensures.front (omega arith) in
+    c.in_ok-table.ensures.lengths known.0 known.1 (subst (λ (all : Bool). BeginsWithKept all c.args.material c.args.kind (front_read c.in_ok-read.read) c.read_front.new.state.place known.0) fewer known.2)

@@ -1,0 +1,5 @@
+pub mod EndLaws
+pub mod InPlaceLaws
+pub mod InPlaceValues
+pub mod PassedLaws
+pub mod StandLaws
