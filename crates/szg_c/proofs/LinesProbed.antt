@@ -5,7 +5,7 @@ use Rattle.std.specs.List.{after_first}
 use Rattle.std.proofs.lemmas.Bool.{cases_lt}
 use Rattle.std.proofs.lemmas.List.{get_or-set_other, get_or-set_same, length-set}
 use Rattle.std.proofs.lemmas.Option.{slice_get-get_or}
-use Rattle.szg_file.specs.InPlace.{InPlace}
+use Rattle.szg_mapped.specs.InPlace.{InPlace}
 use Rattle.szg_c.specs.FenLines.{AreProbed, IsProbed, IsProbedAt, is_line_feed, line_at, text_from}
 
 one_of : (P : ℕ → Type 0) (n k : ℕ) → ((i : ℕ) → i < n → P i) → P n → k < suc n → P k

@@ -1,7 +1,7 @@
 -- The classes of the positions of many texts, for C.
 use Rattle.std.specs.Prelude.{ℕ, suc, zero, ℤ, ◌≡◌, ◌<◌, ◌==◌, Bool, List, IsSomeAnd, MatchResult, slice_get}
 use Rattle.std.specs.List.{after_first, before_first}
-use Rattle.szg_file.specs.InPlace.{InPlace}
+use Rattle.szg_mapped.specs.InPlace.{InPlace}
 use Rattle.szg_c.specs.Fens.{fen_result}
 use Rattle.szg_c.specs.Tablebases.{IsClassProbed}
 use Rattle.szg_c.specs.declared.status.TheConstants.{DONE, NO_RESULT}

@@ -16,7 +16,7 @@ use Rattle.szg_chess.specs.declared.PositionFault.TheVariants as fault
 use Rattle.szg_probe.specs.Probing.{MayFail, all_known, probed}
 use Rattle.szg_probe.specs.Distances.{MayFailByMove, MayFailBySearch, class_at, probed_distance, rank_of, ranked, signed_distance}
 use Rattle.szg_probe.specs.declared.assessments.RankedMove.{RankedMove}
-use Rattle.szg_file.specs.InPlace.{InPlace}
+use Rattle.szg_mapped.specs.InPlace.{InPlace}
 use Rattle.szg_tables.specs.Mapped.{IsOpenedFrom, mapped_classes, mapped_numbers}
 use Rattle.szg_tables.specs.Stored.{IsMissing, number_of_class}
 use Rattle.szg_tables.specs.declared.Missing.{Missing}

@@ -5,7 +5,7 @@ ghost use Rattle.std.specs.declared.option.Option.{Option};
 ghost use Rattle.std.specs.declared.option.Option.TheVariants.{None, Some};
 ghost use Rattle.std.specs.Coded.{coded_option};
 ghost use Rattle.std.specs.contracts.impls.GlobalAllocator.TheImpl.{ghosts};
-ghost use Rattle.szg_file.specs.InPlace.{InPlace};
+ghost use Rattle.szg_mapped.specs.InPlace.{InPlace};
 ghost use Rattle.szg_tables.specs.contracts.opened.OpenedSet.{the_row};
 ghost use Rattle.szg_tables.specs.contracts.mapped.MappedTable.{the_row as table_row};
 ghost use Rattle.szg_tables.specs.contracts.mapped.MappedTableOpenTable.TheImpl.{ghosts as table_ghosts};

@@ -10,7 +10,7 @@ use Rattle.szg_block.specs.Steps.{block_location}
 use Rattle.szg_block.proofs.Deciding.{spells_needed-true, spells_needed-of}
 use Rattle.szg_file.specs.Contents.{Contents, Slot, slots, Subtable, constant, pairs, layout_of}
 use Rattle.szg_file.specs.Fetching.{NamesBadBlock}
-use Rattle.szg_file.specs.InPlace.{InPlace, IsTableIn}
+use Rattle.szg_mapped.specs.InPlace.{InPlace, IsTableIn}
 use Rattle.szg_file.specs.Index.{Index, index_of, slot_in}
 use Rattle.szg_file.specs.Unread.{front_at, IsBadBlock, IsDecoded, IsUnread, unread_file}
 use Rattle.szg_file.specs.Values.{subtable_at}

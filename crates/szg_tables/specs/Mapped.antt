@@ -6,7 +6,7 @@ use Rattle.szg_block.specs.FirstFault.{spells_needed}
 use Rattle.szg_block.specs.Steps.{block_location}
 use Rattle.szg_file.specs.Contents.{Slot, Subtable, constant, pairs, layout_of}
 use Rattle.szg_file.specs.Fetching as fetching
-use Rattle.szg_file.specs.InPlace.{InPlace, IsTableIn}
+use Rattle.szg_mapped.specs.InPlace.{InPlace, IsTableIn}
 use Rattle.szg_file.specs.Index.{Index}
 use Rattle.szg_file.specs.Unread.{front_at}
 use Rattle.szg_file.specs.Values.{constant_value}

@@ -4,9 +4,9 @@
 ghost use Rattle.std.specs.Prelude.{◌≡◌, ◌<◌, IfErr, IfOk, IsSomeAnd, None, Some};
 ghost use Rattle.szg_file.specs.Format.{verdict};
 ghost use Rattle.szg_file.specs.FrontInput.{IsFrontFault};
-ghost use Rattle.szg_file.specs.InPlace.{IsTableIn};
+ghost use Rattle.szg_mapped.specs.InPlace.{IsTableIn};
 ghost use Rattle.szg_file.specs.Index.{slot_in};
-ghost use Rattle.szg_file.specs.Passed.{ArePassed};
+ghost use Rattle.szg_mapped.specs.Passed.{ArePassed};
 ghost use Rattle.szg_file.specs.Unread.{unread_file};
 ghost use Rattle.szg_tables.specs.Mapped.{IsOpenedFrom, NamesBadBlock, mapped, value_at};
 
@@ -15,7 +15,8 @@ use crate::opened::{OpenTable, OpenedSet};
 use std::alloc::{AllocError, Global};
 use std::marker::Model;
 use std::sync::Arc;
-use szg_file::{FetchFault, Passed, ReadFault, TableInPlace, TableIndex, open_in_place};
+use szg_file::{FetchFault, ReadFault, TableIndex};
+use szg_mapped::{Passed, TableInPlace, open_in_place};
 use szg_place::Spot;
 use szg_values::{Kind, Material};
 
@@ -30,8 +31,8 @@ pub struct MappedTable<'a> {
 
 impl<'a> Model for MappedTable<'a> {
     ghost use Rattle.std.specs.Arc.{arc_value};
-    ghost use Rattle.szg_file.specs.InPlace.{InPlace, IsTableIn};
-    ghost use Rattle.szg_file.specs.Passed.{ArePassed};
+    ghost use Rattle.szg_mapped.specs.InPlace.{InPlace, IsTableIn};
+    ghost use Rattle.szg_mapped.specs.Passed.{ArePassed};
 
     ghost Value = { InPlace };
 

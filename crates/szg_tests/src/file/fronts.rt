@@ -3,12 +3,10 @@
 use crate::files::{accepted, made, material};
 use std::alloc::Global;
 use std::process::Abort;
-use szg_file::{
-    FetchFault, FrontTable, Passed, ReadFault, Reason, Table, TableInPlace, open_front,
-    open_in_place,
-};
+use szg_file::{FetchFault, FrontTable, ReadFault, Reason, Table, open_front};
 use szg_fixtures::Fixture;
 use szg_io::{Bytes, Cut};
+use szg_mapped::{Passed, TableInPlace, open_in_place};
 
 /// Opens a file of `size` bytes by its front, three bytes at a time; returns the number of bytes read, too.
 fn front_of(

@@ -1,7 +1,7 @@
 use Rattle.std.proofs.Common.{◌≡◌, ◌∙◌, ℕ, List, ap, arith, refl, subst, sym}
 use Rattle.std.specs.List.{after_first, before_first}
 use Rattle.std.proofs.lemmas.List.{length-set}
-use Rattle.szg_file.specs.InPlace.{InPlace}
+use Rattle.szg_mapped.specs.InPlace.{InPlace}
 use Rattle.szg_c.specs.FenLines.{IsProbed, is_line_feed, line_at, text_from}
 use Rattle.szg_c.proofs.LinesProbed.{none_probed, one_more, text_from-more, text_from-none}
 use Rattle.szg_c.proofs.fen_lines.classes_in.Goals.{then-first-eq-DONE, else-first-eq-DONE}

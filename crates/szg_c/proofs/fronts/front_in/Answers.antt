@@ -5,7 +5,7 @@ use Rattle.szg_file.specs.FrontInput.{IsFrontFault, IsFrontVerdict}
 use Rattle.szg_file.specs.FrontTable.{FrontKept, IsFrontOf}
 use Rattle.szg_file.specs.Unread.{unread_file}
 use Rattle.szg_file.specs.declared.fault.ReadFault.{ReadFault}
-use Rattle.szg_file.proofs.Openings.InPlaceLaws.{front_fault}
+use Rattle.szg_file.proofs.Openings.FrontInputs.{front_fault}
 use Rattle.szg_c.proofs.FrontsStated.{is_front}
 use Rattle.szg_c.proofs.Stopped.{stops}
 use Rattle.szg_c.proofs.fronts.front_in.Goals as goal

@@ -1,7 +1,7 @@
 use Rattle.std.proofs.Common.{refl, subst}
 use Rattle.std.specs.Prelude.{IfSome}
 use Rattle.szg_file.specs.Fetching.{NamesBadBlock}
-use Rattle.szg_file.specs.InPlace.{InPlace}
+use Rattle.szg_mapped.specs.InPlace.{InPlace}
 use Rattle.szg_file.specs.declared.opened.fetching.FetchFault.{FetchFault}
 use Rattle.szg_tables.specs.Mapped.{found_at}
 use Rattle.szg_tables.proofs.MappedFiles.{never_short, subtable_there, value_bad, value_is}

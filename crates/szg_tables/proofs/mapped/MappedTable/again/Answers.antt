@@ -1,6 +1,6 @@
 use Rattle.std.proofs.Common.{rules}
 use Rattle.std.specs.Arc.{arc_value}
-use Rattle.szg_file.specs.InPlace.{IsTableIn}
+use Rattle.szg_mapped.specs.InPlace.{IsTableIn}
 use Rattle.szg_tables.proofs.mapped.MappedTable.again.Goals as goal
 
 -- no block is noted
