@@ -27,6 +27,7 @@ pub fn probe_wdl<T: Tables>(tables: &mut T, position: &Position) -> Result<Class
 
 /// `probe_wdl`. That there is no capture is soon known: then the stored class is the position's.
 #[cycle(search)]
+#[inline(always)]
 pub(crate) fn search<T: Tables>(tables: &mut T, position: &Position) -> Result<Class, T::Fault>
     ensures same { tables.new ≡ tables.old }
     ensures probed { IfOk result (λ k. probed (T.stored tables.old) position.now ≡ Some k) }
@@ -74,6 +75,7 @@ fn search_captures<T: Tables>(tables: &mut T, position: &Position) -> Result<Cla
 }
 
 /// Returns the class that the tables store; two kings alone are a draw.
+#[inline(always)]
 fn stored_class<T: Tables>(tables: &mut T, position: &Position) -> Result<Class, T::Fault>
     ensures same { tables.new ≡ tables.old }
     ensures class { IfOk result (λ k. stored_class (T.stored tables.old) position.now ≡ Some k) }
