@@ -118,6 +118,8 @@ pub(crate) fn first_for<T: OpenTable>(
 }
 
 /// Returns what is missing for the men of a position.
+#[cold]
+#[inline(never)]
 fn missing(position: &Position, kind: Kind, reason: MissingReason) -> Missing
     requires { 2 < length position.now.placed_men }
     ensures { result ≡ record { material = material_of position.now.placed_men; kind = kind; reason = reason } }
