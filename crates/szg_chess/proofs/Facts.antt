@@ -102,6 +102,9 @@ has_men_parts men h =
     let b = and_parts (number_of King White men == 1) (number_of King Black men == 1) all.1 in
     record { many = leb-true 2 (length men) a.0; few = leb-true (length men) 6 a.1; white = eqb-true (number_of King White men) 1 b.0; black = eqb-true (number_of King Black men) 1 b.1 }
 
+pub few_men_of : (men : List PlacedMan) → men_fault men ≡ None → length men ≤ 6
+few_men_of men none = (has_men_parts men (sound_men men none).number).few
+
 pub one_king : (men : List PlacedMan) → HasMen men → (color : Color) → number_of King color men ≡ 1
 one_king men known White = known.white
 one_king men known Black = known.black

@@ -1,7 +1,7 @@
 -- Which squares a man attacks. A man s is a piece or a pawn: s.0 is its kind, s.1 its colour, s.2 its square. Squares are
 -- numbered from a1 = 0, b1 = 1 to h8 = 63; files and ranks from 0: file a and rank 1 have the number 0, file h and rank 8 the
 -- number 7.
-use Rattle.std.specs.Prelude.{ℕ, ◌+◌, ◌-◌, Bool, not, ◌&&◌, ◌||◌, ◌==◌, nat_lt, nat_le, List}
+use Rattle.std.specs.Prelude.{ℕ, ◌+◌, ◌-◌, Bool, not, ◌&&◌, ◌||◌, ◌==◌, nat_lt, nat_le, List, []}
 use Rattle.std.specs.List.{list_any}
 use Rattle.szg_values.specs.Men.{is_man, is_color, other_color, file_of, rank_of}
 use Rattle.szg_values.specs.Placement.{PlacedMan}
@@ -89,6 +89,10 @@ attacks men s to = attacks_from men s.0 s.1 s.2 to
 -- some man of the colour attacks the square
 abbrev pub is_attacked : List PlacedMan → Color → ℕ → Bool
 is_attacked men color square = list_any (λ s. is_color color s.1 && attacks men s square) men
+
+-- some man of the colour would attack a man of the other one on an empty board
+abbrev pub reaches_other : List PlacedMan → Color → Bool
+reaches_other men color = list_any (λ s. is_color color s.1 && list_any (λ t. is_color (other_color color) t.1 && attacks [] s t.2) men) men
 
 -- the colour's king is attacked by the other side
 abbrev pub is_in_check : List PlacedMan → Color → Bool

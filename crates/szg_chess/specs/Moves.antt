@@ -7,7 +7,7 @@ use Rattle.szg_values.specs.Placement.{PlacedMan}
 use Rattle.szg_values.specs.declared.Man.TheVariants.{Pawn, Knight, Bishop, Rook, Queen}
 use Rattle.szg_values.specs.declared.Color.{Color}
 use Rattle.szg_values.specs.declared.Color.TheVariants.{White, Black}
-use Rattle.szg_chess.specs.Attacks.{attacks, is_occupied, is_in_check, is_ahead, files_apart, ranks_apart}
+use Rattle.szg_chess.specs.Attacks.{attacks, is_occupied, is_in_check, is_ahead, files_apart, ranks_apart, reaches_other}
 use Rattle.szg_chess.specs.Position.{Position, is_on}
 use Rattle.szg_chess.specs.declared.Move.{Move}
 
@@ -53,8 +53,7 @@ captures_of p = flat_map (captures_by p) (men_of p.mover p.placed_men)
 -- Some man of the side to move would attack an enemy man on an empty board, or there is an en passant square. If not, there is
 -- no capture.
 abbrev pub may_capture : Position → Bool
-may_capture p = is_some p.en_passant
-    || list_any (λ s. is_color p.mover s.1 && list_any (λ t. is_color (other_color p.mover) t.1 && attacks [] s t.2) p.placed_men) p.placed_men
+may_capture p = is_some p.en_passant || reaches_other p.placed_men p.mover
 
 -- White's pawns begin on rank 2, which has the number 1, and Black's on rank 7
 abbrev pub home_rank : Color → ℕ

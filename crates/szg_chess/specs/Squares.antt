@@ -2,8 +2,8 @@
 use Rattle.std.specs.Prelude.{ℕ, zero, suc, ◌+◌, ◌^◌, ◌≡◌, Bool, not, ◌&&◌, ◌||◌, ◌==◌, List, [], if◌then◌else◌}
 use Rattle.std.specs.Int.{bit_at}
 use Rattle.std.specs.Int.Bits.{bit_and}
-use Rattle.szg_values.specs.Placement.{PlacedMan}
-use Rattle.szg_chess.specs.Attacks.{attacks, is_between, is_occupied}
+use Rattle.szg_values.specs.Placement.{PlacedMan, men_key}
+use Rattle.szg_chess.specs.Attacks.{attacks, is_between, is_occupied, reaches_other}
 use Rattle.szg_chess.specs.Position.{Position, IsPosition}
 
 -- the square is in the set
@@ -37,7 +37,10 @@ abbrev pub is_in_moved : (ℕ → Bool) → ℕ → ℕ → ℕ → ℕ → Bool
 is_in_moved occupied captured from to square =
     (occupied from && not (captured == from) && square == to) || (occupied square && not (square == captured) && not (square == from))
 
--- a position is stored together with the set of its men's squares
-pub record IsStored (p : Position) (occupied : ℕ) : Type 0 where
+-- a position is stored together with the set of its men's squares, with their key, and with whether one of the side to move
+-- reaches one of the other side's
+pub record IsStored (p : Position) (occupied key : ℕ) (reaches : Bool) : Type 0 where
   pub position : IsPosition p
   pub squares : occupied ≡ squares_of p.placed_men
+  pub key_is : key ≡ men_key p.placed_men
+  pub reaches_is : reaches ≡ reaches_other p.placed_men p.mover

@@ -6,9 +6,10 @@ ghost use Rattle.szg_values.specs.Men.{is_man, is_color, other_color, code_of, f
 ghost use Rattle.szg_values.specs.Placement.{AreOnBoard};
 ghost use Rattle.szg_values.specs.declared.Man.TheVariants.{Pawn, King};
 ghost use Rattle.szg_values.specs.declared.Color.TheVariants.{Black};
-ghost use Rattle.szg_chess.specs.Attacks.{distance, files_apart, ranks_apart, is_ahead, is_in_check};
+ghost use Rattle.szg_chess.specs.Attacks.{distance, files_apart, ranks_apart, is_ahead, is_in_check, reaches_other};
 ghost use Rattle.szg_chess.specs.Squares.{is_in, squares_of, squares_between, reach_of, attacks_past};
 
+use crate::moves::next_in;
 use crate::tables::{reach_of, squares_between};
 use szg_values::{Color, Man, Square};
 
@@ -84,13 +85,59 @@ pub(crate) fn squares_of(men: &[(Man, Color, Square)]) -> u64
     squares
 }
 
-/// Returns whether a colour's king is attacked by the other side, if the men are on these squares.
+/// Returns whether some man of a colour would attack a man of the other one on an empty board. If not, none attacks one. No
+/// branch depends on a man, since a processor could not predict it.
+pub(crate) fn reaches_other(men: &[(Man, Color, Square)], color: Color) -> bool
+    requires { AreOnBoard men.now }
+    ensures { result ≡ reaches_other men.now color }
+{
+    let mut reached = 0u64;
+    let mut others = 0u64;
+    for man in men {
+        let reach = reach_of(man);
+        let square = 1 << man.2.number();
+        if is_of(color, man) {
+            reached |= reach;
+        } else {
+            others |= square;
+        }
+    }
+    next_in(reached & others, 0) < 64
+}
+
+/// Returns whether a man is of a colour.
+fn is_of(color: Color, man: &(Man, Color, Square)) -> bool
+    ensures { result ≡ is_color color man.now.1 }
+{
+    man.1 == color
+}
+
+/// Returns whether a colour's king is attacked by the other side, if the men are on these squares. That no man of the other
+/// side reaches any is soon known.
 pub(crate) fn is_in_check(men: &[(Man, Color, Square)], occupied: u64, color: Color) -> bool
     requires on_board { AreOnBoard men.now }
     requires squares { occupied ≡ squares_of men.now }
     ensures { result ≡ is_in_check men.now color }
 {
-    has_attacked_king(men, occupied, color, other_color(color))
+    let other = other_color(color);
+    is_in_check_by(men, occupied, color, other, reaches_other(men, other))
+}
+
+/// The same, given the other colour, and whether some man of it would attack one of this colour on an empty board.
+pub(crate) fn is_in_check_by(
+    men: &[(Man, Color, Square)],
+    occupied: u64,
+    color: Color,
+    other: Color,
+    reaches: bool,
+) -> bool
+    requires on_board { AreOnBoard men.now }
+    requires squares { occupied ≡ squares_of men.now }
+    requires other { other ≡ other_color color }
+    requires reaches { reaches ≡ reaches_other men.now other }
+    ensures { result ≡ is_in_check men.now color }
+{
+    reaches && has_attacked_king(men, occupied, color, other)
 }
 
 fn has_attacked_king(

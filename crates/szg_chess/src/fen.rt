@@ -14,7 +14,7 @@ use crate::texts::{push_letter, push_square};
 use crate::{FenRecord, Position, PositionFault};
 use arrayvec::{ArrayString, ArrayVec};
 use std::fmt;
-use szg_values::{Color, Man, Square};
+use szg_values::{Color, Man, Square, key_of};
 
 impl Position {
     /// Parses a text in Forsyth-Edwards Notation: the board, the side to move, `-` for castling, the en passant square or
@@ -97,7 +97,7 @@ fn position_of(men: &[(Man, Color, Square)], text: &[u8]) -> Result<Position, Po
 {
     let mover = mover_of(field(rest(text)));
     let en_passant = en_passant_of(field(from_en_passant(text)));
-    Position::of_men(men, mover, en_passant)
+    Position::of_men(men, key_of(men), mover, en_passant)
 }
 
 /// Returns the first fault of the board's text, if any.

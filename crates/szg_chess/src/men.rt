@@ -1,6 +1,6 @@
 //! A list of at most six elements, for the men of a position.
 
-ghost use Rattle.std.specs.Prelude.{◌≡◌, ◌<◌, ◌≤◌, ◌++◌, ◌∷◌, [], length, map};
+ghost use Rattle.std.specs.Prelude.{◌≡◌, ◌<◌, ◌≤◌, ◌++◌, ◌∷◌, [], length, map, IfSome, slice_get};
 ghost use Rattle.std.specs.Cmp.Lexicographic.{pointwise, lists_per, lists_equiv};
 ghost use Rattle.szg_chess.specs.Moves.{man_after};
 
@@ -110,16 +110,32 @@ pub(crate) fn moved(men: &Few<(Man, Color, Square)>, m: &Move) -> Few<(Man, Colo
     }
 }
 
-/// Returns these men.
+/// Returns these men. Each is read by itself, since they were just written so.
 #[inline(always)]
 pub(crate) fn few_men(men: &[(Man, Color, Square)]) -> Few<(Man, Color, Square)>
     requires { length men.now ≤ 6 }
     ensures { result ≡ men.now }
 {
-    let mut places: [(Man, Color, Square); 6] = Default::default();
-    places[..men.len()].copy_from_slice(men);
     Few {
-        places,
+        places: [
+            man_or_default(men, 0),
+            man_or_default(men, 1),
+            man_or_default(men, 2),
+            man_or_default(men, 3),
+            man_or_default(men, 4),
+            man_or_default(men, 5),
+        ],
         count: men.len(),
+    }
+}
+
+/// Returns man `n`; any man if there are fewer.
+#[inline(always)]
+fn man_or_default(men: &[(Man, Color, Square)], n: usize) -> (Man, Color, Square)
+    ensures { IfSome (slice_get men.now n) (λ man. result ≡ man) }
+{
+    match men.get(n) {
+        Some(man) => *man,
+        None => Default::default(),
     }
 }

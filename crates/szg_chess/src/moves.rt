@@ -4,20 +4,22 @@ ghost use Rattle.std.specs.Prelude.{ℕ, true, ◌≡◌, ◌≢◌, ◌<◌, �
 ghost use Rattle.std.specs.List.{All, find, list_any};
 ghost use Rattle.arrayvec.specs.ArrayVec.{array_vec_len};
 ghost use Rattle.szg_values.specs.Men.{is_man, is_color, other_color, file_of, rank_of, square_at};
-ghost use Rattle.szg_values.specs.Placement.{AreOnBoard, PlacedMan};
+ghost use Rattle.szg_values.specs.Placement.{AreOnBoard, PlacedMan, men_key};
 ghost use Rattle.szg_values.specs.declared.Man.TheVariants.{King};
 ghost use Rattle.szg_chess.specs.Attacks.{attacks, is_occupied, is_in_check};
 ghost use Rattle.szg_chess.specs.Position.{IsPosition};
 ghost use Rattle.szg_chess.specs.Squares.{is_in, is_in_moved, squares_of, attacks_past};
 ghost use Rattle.szg_chess.specs.Moves.{men_of, promotes, moves_to, moves_if, may_pass, en_passant_moves, captures_by, captures_of, home_rank, double_rank, is_push, may_enter, quiet_moves_by, quiet_moves_of, moves_of, is_pawn_on, is_square, is_en_passant, captured_square, man_after, men_after, is_double_step, middle, after, is_legal, legal_moves, legal_captures, is_capture, is_zeroing, is_mate, is_stalemate, has_no_move, has_quiet_move, has_move_beside_en_passant, may_capture};
 
-use crate::attacks::{attacks_past, files_apart, is_ahead, is_in, other_color, ranks_apart};
+use crate::attacks::{
+    attacks_past, files_apart, is_ahead, is_in, other_color, ranks_apart, reaches_other,
+};
 use crate::men::{Few, moved};
 use crate::positions::is_on;
 use crate::tables::reach_of;
 use crate::{MAX_CAPTURES, MAX_MOVES, Move, Position};
 use arrayvec::ArrayVec;
-use szg_values::{Color, Man, Square};
+use szg_values::{Color, Man, Square, key_of};
 
 impl Position {
     /// Returns the legal captures: exactly the legal moves that capture, in the order of `legal_moves`.
@@ -49,16 +51,7 @@ impl Position {
         ensures found { result ≡ may_capture self.now }
         ensures none { IsFalse result → legal_captures self.now ≡ [] }
     {
-        if self.en_passant.is_some() {
-            return true;
-        }
-        let enemies = self.enemies();
-        for man in self.men() {
-            if self.is_own(man) && self.reaches_enemy(man, enemies) {
-                return true;
-            }
-        }
-        false
+        self.en_passant.is_some() || self.reaches()
     }
 
     /// Returns the legal moves: captures, then moves to empty squares.
@@ -82,10 +75,16 @@ impl Position {
         let captured = self.captured_square(&m);
         let occupied = self.squares_after(&m, captured);
         let en_passant = self.passed_square(&m);
+        let men = self.men_after(&m, captured);
+        let key = self.key_after(&m, captured, &men);
+        let mover = other_color(self.mover());
+        let reaches = reaches_other(men.as_slice(), mover);
         Position {
-            men: self.men_after(&m, captured),
+            men,
             occupied,
-            mover: other_color(self.mover()),
+            key,
+            reaches,
+            mover,
             en_passant,
         }
     }
@@ -450,6 +449,20 @@ impl Position {
             self.men_left(m, captured)
         } else {
             moved(&self.men, m)
+        }
+    }
+
+    /// Returns the key of the men after a move. It stays if none is captured or promoted.
+    #[inline(always)]
+    fn key_after(&self, m: &Move, captured: u8, men: &Few<(Man, Color, Square)>) -> u64
+        requires men { men.now ≡ men_after self.now m.now }
+        requires captured { captured ≡ captured_square self.now m.now }
+        requires inside { captured < 64 }
+        ensures { result ≡ men_key (men_after self.now m.now) }
+    {
+        match m.promotion {
+            None if !self.is_occupied(captured) => self.key(),
+            _ => key_of(men.as_slice()),
         }
     }
 

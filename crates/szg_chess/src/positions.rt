@@ -4,13 +4,13 @@ ghost use Rattle.std.specs.Prelude.{◌≡◌, ◌<◌, ◌≤◌, ◌==◌, ◌
 ghost use Rattle.std.specs.List.{find};
 ghost use Rattle.std.specs.Option.{ForSome};
 ghost use Rattle.szg_values.specs.Men.{other_color, file_of, square_at};
-ghost use Rattle.szg_values.specs.Placement.{AreOnBoard, number_of, has_distinct_squares, has_pawns_on_inner_ranks};
-ghost use Rattle.szg_chess.specs.Attacks.{is_occupied, is_in_check};
+ghost use Rattle.szg_values.specs.Placement.{AreOnBoard, men_key, number_of, has_distinct_squares, has_pawns_on_inner_ranks};
+ghost use Rattle.szg_chess.specs.Attacks.{is_occupied, is_in_check, reaches_other};
 ghost use Rattle.szg_chess.specs.Position.{IsPosition, men_fault, state_fault, position_fault, has_two_to_six, has_kings, without_en_passant, man_on, is_on, was_passed, has_sound_en_passant};
 ghost use Rattle.szg_chess.specs.Squares.{squares_of};
 ghost use Rattle.szg_chess.specs.Moves.{is_check};
 
-use crate::attacks::{is_in_check, other_color, squares_of};
+use crate::attacks::{is_in_check, is_in_check_by, other_color, reaches_other, squares_of};
 use crate::men::few_men;
 use crate::{Position, PositionFault};
 use szg_values::{
@@ -32,7 +32,7 @@ impl Position {
     {
         match men_fault(men) {
             Some(fault) => Err(fault),
-            None => Position::of_men(men, mover, en_passant),
+            None => Position::of_men(men, key_of(men), mover, en_passant),
         }
     }
 
@@ -41,11 +41,13 @@ impl Position {
     #[tactic(auto, unfolding(crate::specs::Position::position_fault, crate::specs::Position::state_fault))]
     pub(crate) fn of_men(
         men: &[(Man, Color, Square)],
+        key: u64,
         mover: Color,
         en_passant: Option<Square>,
     ) -> Result<Position, PositionFault>
         requires men { men_fault men.now ≡ None }
         requires on_board { AreOnBoard men.now }
+        requires key { key ≡ men_key men.now }
         ensures accepted { IsNone (state_fault (record { placed_men = men.now; mover = mover; en_passant = en_passant })) → result ≡ Ok (record { placed_men = men.now; mover = mover; en_passant = en_passant }) }
         ensures refused { IfSome (state_fault (record { placed_men = men.now; mover = mover; en_passant = en_passant })) (λ fault. result ≡ Err fault) }
     {
@@ -53,12 +55,15 @@ impl Position {
             return Err(PositionFault::EnPassant);
         }
         let occupied = squares_of(men);
-        if is_in_check(men, occupied, other_color(mover)) {
+        let reaches = reaches_other(men, mover);
+        if is_in_check_by(men, occupied, other_color(mover), mover, reaches) {
             return Err(PositionFault::OpponentInCheck);
         }
         Ok(Position {
             men: few_men(men),
             occupied,
+            key,
+            reaches,
             mover,
             en_passant,
         })
@@ -74,7 +79,12 @@ impl Position {
         ensures accepted { IsNone (position_fault (record { placed_men = placed_men.now.placed_men; mover = placed_men.now.mover; en_passant = en_passant })) → result ≡ Ok (record { placed_men = placed_men.now.placed_men; mover = placed_men.now.mover; en_passant = en_passant }) }
         ensures refused { IfSome (position_fault (record { placed_men = placed_men.now.placed_men; mover = placed_men.now.mover; en_passant = en_passant })) (λ fault. result ≡ Err fault) }
     {
-        Position::of_men(placed_men.men(), placed_men.mover(), en_passant)
+        Position::of_men(
+            placed_men.men(),
+            placed_men.key(),
+            placed_men.mover(),
+            en_passant,
+        )
     }
 
     /// Returns the placement of the men and the side to move, which drops the en passant square. None for bare kings,
@@ -98,8 +108,7 @@ impl Position {
         ensures placed { 3 ≤ length self.now.placed_men → result ≡ Some (record { placed_men = self.now.placed_men; mover = self.now.mover }) }
         ensures bare { length self.now.placed_men < 3 → result ≡ None }
     {
-        let men = self.men();
-        PlacedMen::of_standing(men, self.mover(), key_of(men))
+        PlacedMen::of_standing(self.men(), self.mover(), self.key())
     }
 
     /// Returns a copy.
@@ -109,6 +118,8 @@ impl Position {
         Position {
             men: self.men.copy(),
             occupied: self.occupied(),
+            key: self.key(),
+            reaches: self.reaches(),
             mover: self.mover(),
             en_passant: self.en_passant(),
         }
@@ -121,6 +132,8 @@ impl Position {
         Position {
             men: self.men.copy(),
             occupied: self.occupied(),
+            key: self.key(),
+            reaches: self.reaches(),
             mover: self.mover(),
             en_passant: None,
         }
@@ -164,6 +177,20 @@ impl Position {
         ensures on_board { AreOnBoard self.now.placed_men }
     {
         self.occupied
+    }
+
+    /// Returns the number of men of each kind and colour as one number, as a placement's key.
+    pub(crate) fn key(&self) -> u64
+        ensures { result ≡ men_key self.now.placed_men }
+    {
+        self.key
+    }
+
+    /// Returns whether some man of the side to move would attack an enemy man on an empty board.
+    pub(crate) fn reaches(&self) -> bool
+        ensures { result ≡ reaches_other self.now.placed_men self.now.mover }
+    {
+        self.reaches
     }
 }
 

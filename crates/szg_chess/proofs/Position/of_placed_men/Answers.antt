@@ -1,5 +1,5 @@
-use Rattle.std.proofs.Common.{◌∙◌, List, ap}
-use Rattle.szg_values.specs.Placement.{PlacedMan}
+use Rattle.std.proofs.Common.{◌∙◌, List, ap, sym}
+use Rattle.szg_values.specs.Placement.{PlacedMan, men_key}
 use Rattle.szg_values.specs.declared.Color.{Color}
 use Rattle.szg_chess.specs.Position.{Position}
 use Rattle.szg_chess.proofs.PlacementMen.{accepted_by, no_men_fault, refused_by}
@@ -7,6 +7,9 @@ use Rattle.szg_chess.proofs.Position.of_placed_men.Goals as goal
 
 pub of_men-requires-clause-men : goal.of_men-requires-clause-men
 of_men-requires-clause-men c = no_men_fault c.men.result.now c.men.ensures.no_fault
+
+pub of_men-requires-clause-key : goal.of_men-requires-clause-key
+of_men-requires-clause-key c = c.key.ensures ∙ ap men_key (sym c.men.ensures.men)
 
 pub returns-clause-accepted : goal.returns-clause-accepted
 returns-clause-accepted c =

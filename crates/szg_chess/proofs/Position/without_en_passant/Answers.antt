@@ -9,4 +9,6 @@ invariant_of-result c =
     record {
       position = rw (men, c.mover.ensures) (position_without c.args.self.now c.occupied.ensures.position);
       squares = rw men c.occupied.ensures.squares;
+      key_is = rw men c.key.ensures;
+      reaches_is = rw (men, c.mover.ensures) c.reaches.ensures;
     }
