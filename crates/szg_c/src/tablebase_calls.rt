@@ -1,6 +1,6 @@
 //! Calls on a tablebase: tables are added by their bytes, and positions are probed with their captures, the right to
 //! capture en passant and the fifty-move counter.
-ghost use Rattle.std.specs.Prelude.{◌≡◌, ◌≤◌, ◌⊎◌, ◌++◌, Err, IfErr, IfNone, IfOk, IfSome, MatchResult, Ok, drop, length, map};
+ghost use Rattle.std.specs.Prelude.{◌≡◌, ◌≤◌, ◌⊎◌, ◌++◌, [], Err, IfErr, IfNone, IfOk, IfSome, MatchResult, Ok, drop, length, map};
 ghost use Rattle.std.specs.declared.option.Option.TheVariants.{None, Some};
 ghost use Rattle.szg_file.specs.Unread.{unread_file};
 ghost use Rattle.szg_c.specs.Reported.{Stops};
@@ -168,6 +168,7 @@ pub extern "C" fn szg_close_tablebase(alloc: Global, tablebase: &mut HeldTableba
 /// Returns the position of these men with this side to move (White 0, Black 1) and the square that a pawn has just passed
 /// over by a double step (64 or more for none). Errors: the first status that applies, of `MAN` for an invalid number, `MEN`,
 /// `SAME_SQUARE`, `PAWN_RANK`, `EN_PASSANT` and `IN_CHECK`.
+#[inline(always)]
 fn position_of(men: &[RawMan], mover: u8, en_passant: u8) -> Result<Position, u32>
     ensures { result ≡ position_of men.now mover en_passant }
 {
@@ -262,6 +263,16 @@ pub(crate) fn class_in(
     }
 }
 
+/// The same by no tables. It is a function of its own, so that only it has room for a set.
+#[cold]
+#[inline(never)]
+fn class_in_none(alloc: Global, position: &Position, class: &mut i8, lack: &mut RawMissing) -> u32
+    ensures reported { IsClassProbed [] position.now result class.new lack.old lack.new }
+    ensures class_stays { (result ≡ 0 → ⊥) → class.new ≡ class.old }
+{
+    class_in(&mut MappedSet::of(Vec::new(alloc)), position, class, lack)
+}
+
 /// Probes the class of a position for the side to move (2 win, 1 cursed win, 0 draw, -1 blessed loss, -2 loss), from the
 /// tables of a tablebase: with its captures, and with the right to capture en passant on the square that a pawn has just
 /// passed over by a double step (64 or more for none). The fifty-move counter is 0.
@@ -289,7 +300,7 @@ pub extern "C" fn szg_tablebase_wdl(
         Err(status) => return status,
     };
     let Some(mut held) = take(tablebase, alloc) else {
-        return class_in(&mut MappedSet::of(Vec::new(alloc)), &position, class, lack);
+        return class_in_none(alloc, &position, class, lack);
     };
     let status = class_in(&mut held, &position, class, lack);
     put(tablebase, held);
@@ -319,6 +330,28 @@ fn distance_in(
     }
 }
 
+/// The same by no tables.
+#[cold]
+#[inline(never)]
+fn distance_in_none(
+    alloc: Global,
+    position: &Position,
+    counter: u32,
+    distance: &mut RawDistance,
+    lack: &mut RawMissing,
+) -> u32
+    ensures reported { IsDistanceProbed [] counter position.now result distance.new lack.old lack.new }
+    ensures distance_stays { (result ≡ 0 → ⊥) → distance.new ≡ distance.old }
+{
+    distance_in(
+        &mut MappedSet::of(Vec::new(alloc)),
+        position,
+        counter,
+        distance,
+        lack,
+    )
+}
+
 /// Probes the class and the DTZ of a position, as `szg_tablebase_wdl`. `counter` is the number of plies since the last
 /// capture or pawn's move: a win or a loss of more plies than it leaves is a cursed win or a blessed loss. The DTZ is the
 /// number of plies to the next capture or pawn's move that keeps the class, or to mate, 100 more in a cursed win or a blessed
@@ -346,13 +379,7 @@ pub extern "C" fn szg_tablebase_dtz(
         Err(status) => return status,
     };
     let Some(mut held) = take(tablebase, alloc) else {
-        return distance_in(
-            &mut MappedSet::of(Vec::new(alloc)),
-            &position,
-            counter,
-            distance,
-            lack,
-        );
+        return distance_in_none(alloc, &position, counter, distance, lack);
     };
     let status = distance_in(&mut held, &position, counter, distance, lack);
     put(tablebase, held);
@@ -420,6 +447,30 @@ fn moves_in(
     DONE
 }
 
+/// The same by no tables.
+#[cold]
+#[inline(never)]
+fn moves_in_none(
+    alloc: Global,
+    position: &Position,
+    counter: u32,
+    moves: &mut [RawMove],
+    count: &mut usize,
+    lack: &mut RawMissing,
+) -> u32
+    ensures reported { IsRankedWritten [] counter position.now result moves.old moves.new count.new lack.old lack.new }
+    ensures stays { (result ≡ 0 → ⊥) → (moves.new ≡ moves.old) × (count.new ≡ count.old) }
+{
+    moves_in(
+        &mut MappedSet::of(Vec::new(alloc)),
+        position,
+        counter,
+        moves,
+        count,
+        lack,
+    )
+}
+
 /// Writes the legal moves of a position to the beginning of a list, and their number: the best first, by class, then a win by
 /// the least DTZ and a loss by the greatest. A move's class and DTZ are those that it gives the player who makes it, with
 /// `counter` as in `szg_tablebase_dtz`. A list of 128 moves has room for each position's.
@@ -446,14 +497,7 @@ pub extern "C" fn szg_tablebase_moves(
         Err(status) => return status,
     };
     let Some(mut held) = take(tablebase, alloc) else {
-        return moves_in(
-            &mut MappedSet::of(Vec::new(alloc)),
-            &position,
-            counter,
-            moves,
-            count,
-            lack,
-        );
+        return moves_in_none(alloc, &position, counter, moves, count, lack);
     };
     let status = moves_in(&mut held, &position, counter, moves, count, lack);
     put(tablebase, held);
