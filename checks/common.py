@@ -2,6 +2,7 @@
 count of what was compared. With --help a script prints the text that it begins with."""
 import argparse
 import contextlib
+import hashlib
 import os
 import pty
 import re
@@ -31,6 +32,8 @@ SAMPLES = [
     ("KQvK", "wdl", "kqvk_wdl_paired.rtbw", "b Ke8 Qa1 kh1"),
     ("KPvK", "dtz", "kpvk_dtz_mapped.rtbz", "w Ke1 Pa2 ke8"),
 ]
+# The bytes of each, by what its subtables are.
+SAMPLE = {name: (ROOT / "data" / file).read_bytes() for name, (_, _, file, _) in zip(("constant", "unpaired", "paired", "mapped"), SAMPLES)}
 # Seconds after which a run of the program counts as hanging. Verifying four men may take minutes on a busy machine.
 LIMIT = 3600
 # The last sixteen bytes of a made table.
@@ -102,6 +105,11 @@ def unescaped(text: bytes) -> bytes:
     return re.sub(rb"\\x([0-9a-f]{2})", lambda found: bytes([int(found[1], 16)]), text)
 
 
+def with_digests(text: str, data: Dict[str, bytes]) -> str:
+    """A text in which {NAME DATA} stands for a digest of a sample or of `data`."""
+    return re.sub(r"\{(md5|sha\d+) (\w+)\}", lambda found: hashlib.new(found[1], {**SAMPLE, **data}[found[2]]).hexdigest(), text)
+
+
 def full_device() -> BinaryIO:
     """The device that takes no byte, open for writing; never a file of its name, which a careless writer may have left."""
     device = os.open("/dev/full", os.O_WRONLY)
@@ -136,15 +144,58 @@ class Checks:
         if found != due:
             self.fault(f"{what}: {shortened(found)}, not {shortened(due)}")
 
-    def same_texts(self, path: Path, part: str, run: Callable[..., Any]) -> None:
+    def same_texts(self, path: Path, part: str, run: Callable[..., Any], folder: Path = ROOT, data: Dict[str, bytes] = {}) -> None:
         """Compares runs with a part of a file, which `== NAME` begins. A paragraph has the status and the words of a run, escaped, and
-        then its standard output; ! begins a line of standard error."""
+        then its standard output; ! begins a line of standard error; after > comes the file that gets the output, which isn't
+        compared. Lines that begin with + make files in the folder, or say what is there: see `step`."""
         texts = dict(text.split("\n\n", 1) for text in path.read_text(encoding="utf-8").split("== ")[1:])
-        for paragraph in texts[part].rstrip("\n").split("\n\n"):
+        for paragraph in with_digests(texts[part], data).rstrip("\n").split("\n\n"):
+            if paragraph.startswith("+ "):
+                for line in paragraph.splitlines():
+                    self.step(folder, line, data)
+                continue
             head, _, text = f"{paragraph}\n".partition("\n")
+            head, _, kept = head.partition(" > ")
             status, *words = head.split(" ")
             out, errors = re.sub(r"^! .*\n", "", text, flags=re.M), "".join(re.findall(r"^! (.*\n)", text, re.M))
-            self.same(head, run(*(unescaped(word.encode()).decode() for word in words)), (int(status), out.encode(), errors.encode()))
+            found = run(*(unescaped(word.encode()).decode() for word in words))
+            if kept:
+                write(folder / kept, found[1])
+                found, out = (found[0], b"", found[2]), ""
+            self.same(head, found, (int(status), out.encode(), errors.encode()))
+
+    def step(self, folder: Path, line: str, data: Dict[str, bytes]) -> None:
+        """Makes files below a folder, or compares what is there, with the words of a line. DATA is +TEXT, or the name of a sample or of
+        `data`, with [:N] only its beginning, with +TEXT more after it."""
+        verb, *words = (unescaped(word.encode()).decode(errors="surrogateescape") for word in line.split(" ")[1:])
+        path = folder / words[-1]
+        if verb in ("put", "is"):
+            of, name, end, more = re.fullmatch(r"((\w*)(?:\[:(-?\d+)\])?)(?:\+(.*))?", words[0], re.S).groups()  # type: ignore[union-attr]
+            content = {"": b"", **SAMPLE, **data}[name][: int(end) if end else None] + (more or "").encode()
+            for file in words[1:]:
+                if verb == "put":
+                    write(folder / file, content)
+                else:
+                    self.same(f"{file} is {of}", (folder / file).read_bytes(), content)
+        elif verb == "names":
+            self.same(f"the files of {words[0]}", sorted(os.listdir(folder / words[0])), words[1:])
+        elif verb == "remove":
+            subprocess.run(["rm", "-rf", *(folder / word for word in words)], check=True)
+        elif verb == "folder":
+            path.mkdir(parents=True)
+        elif verb == "fifo":
+            os.mkfifo(path)
+        elif verb == "link":
+            path.symlink_to(words[0])
+        elif verb == "mode":
+            path.chmod(int(words[0], 8))
+        elif verb == "time":
+            for file in words[1:]:
+                os.utime(folder / file, ns=(5, int(words[0])))
+        elif verb == "join":
+            path.write_bytes(b"".join((folder / word).read_bytes() for word in words[:-1]))
+        else:
+            sys.exit(f"{line}: no step is named {verb}")
 
     def fault(self, text: object) -> None:
         self.faults += 1
