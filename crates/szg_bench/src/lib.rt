@@ -1,7 +1,6 @@
-//! The look-ups, the builder and the rules of chess through a C interface, for `bench/` and `checks/`.
+//! The look-ups and the rules of chess through a C interface, for `bench/` and `checks/`.
 #![tactic(auto)]
 
-mod building;
 mod chess;
 mod opened;
 
