@@ -33,12 +33,15 @@ SAMPLES = [
     ("KPvK", "dtz", "kpvk_dtz_mapped.rtbz", "w Ke1 Pa2 ke8"),
 ]
 # The bytes of each, by what its subtables are.
-SAMPLE = {name: (ROOT / "data" / file).read_bytes() for name, (_, _, file, _) in zip(("constant", "unpaired", "paired", "mapped"), SAMPLES)}
+NAMED = zip(("constant", "unpaired", "paired", "mapped"), SAMPLES)
+SAMPLE = {name: (ROOT / "data" / file).read_bytes() for name, (_, _, file, _) in NAMED}
 # Seconds after which a run of the program counts as hanging. Verifying four men may take minutes on a busy machine.
 LIMIT = 3600
 # The last sixteen bytes of a made table.
 LAST = bytes(range(16))
 Word = Union[str, bytes, Path]
+# Bytes by their names, which the texts of runs take (`content`).
+Inputs = Dict[str, bytes]
 
 if sys.argv[1:2] in (["-h"], ["--help"]) and ROOT in Path(sys.argv[0]).resolve().parents:
     print(__main__.__doc__)
@@ -105,9 +108,22 @@ def unescaped(text: bytes) -> bytes:
     return re.sub(rb"\\x([0-9a-f]{2})", lambda found: bytes([int(found[1], 16)]), text)
 
 
-def with_digests(text: str, data: Dict[str, bytes]) -> str:
+def content(text: str, data: Inputs) -> bytes:
+    """Bytes: +TEXT, or those of a sample or of `data` by their NAME; after NAME may come /OLD/NEW, of which the first OLD is replaced,
+    [:N] for the beginning alone, and +TEXT for what follows."""
+    name, changes, end, more = re.fullmatch(r"(\w*)((?:/[^/]*/[^/[+]*)*)(?:\[:(-?\d+)\])?(?:\+(.*))?", text, re.S).groups()  # type: ignore
+    found, texts = {"": b"", **SAMPLE, **data}[name], changes.encode().split(b"/")[1:]
+    for old, new in zip(texts[::2], texts[1::2]):
+        found = found.replace(old, new, 1)
+    return found[: int(end) if end else None] + (more or "").encode()
+
+
+def with_digests(text: str, data: Inputs) -> str:
     """A text in which {NAME DATA} stands for a digest of a sample or of `data`."""
-    return re.sub(r"\{(md5|sha\d+) (\w+)\}", lambda found: hashlib.new(found[1], {**SAMPLE, **data}[found[2]]).hexdigest(), text)
+    def digest(found: "re.Match[str]") -> str:
+        return hashlib.new(found[1], {**SAMPLE, **data}[found[2]]).hexdigest()
+
+    return re.sub(r"\{(md5|sha\d+) (\w+)\}", digest, text)
 
 
 def full_device() -> BinaryIO:
@@ -144,10 +160,11 @@ class Checks:
         if found != due:
             self.fault(f"{what}: {shortened(found)}, not {shortened(due)}")
 
-    def same_texts(self, path: Path, part: str, run: Callable[..., Any], folder: Path = ROOT, data: Dict[str, bytes] = {}) -> None:
-        """Compares runs with a part of a file, which `== NAME` begins. A paragraph has the status and the words of a run, escaped, and
-        then its standard output; ! begins a line of standard error; after > comes the file that gets the output, which isn't
-        compared. Lines that begin with + make files in the folder, or say what is there: see `step`."""
+    def same_texts(self, path: Path, part: str, run: Callable[..., Any], folder: Path = ROOT, data: Inputs = {}) -> None:
+        """Compares runs with a part of a file, which `== NAME` begins. A paragraph has the status and the words of a run, escaped,
+        after < its standard input (`content`), and then its standard output; ! begins a line of standard error. After > comes
+        the file that gets the output, which isn't compared. Lines that begin with + make files in the folder, or say what is
+        there: see `step`."""
         texts = dict(text.split("\n\n", 1) for text in path.read_text(encoding="utf-8").split("== ")[1:])
         for paragraph in with_digests(texts[part], data).rstrip("\n").split("\n\n"):
             if paragraph.startswith("+ "):
@@ -155,28 +172,26 @@ class Checks:
                     self.step(folder, line, data)
                 continue
             head, _, text = f"{paragraph}\n".partition("\n")
-            head, _, kept = head.partition(" > ")
-            status, *words = head.split(" ")
+            line, _, kept = head.partition(" > ")
+            line, _, given = line.partition(" < ")
+            status, *words = (unescaped(word.encode()).decode() for word in line.split(" "))
             out, errors = re.sub(r"^! .*\n", "", text, flags=re.M), "".join(re.findall(r"^! (.*\n)", text, re.M))
-            found = run(*(unescaped(word.encode()).decode() for word in words))
+            found = run(*words, **({"data": content(unescaped(given.encode()).decode(), data)} if given else {}))
             if kept:
                 write(folder / kept, found[1])
                 found, out = (found[0], b"", found[2]), ""
             self.same(head, found, (int(status), out.encode(), errors.encode()))
 
-    def step(self, folder: Path, line: str, data: Dict[str, bytes]) -> None:
-        """Makes files below a folder, or compares what is there, with the words of a line. DATA is +TEXT, or the name of a sample or of
-        `data`, with [:N] only its beginning, with +TEXT more after it."""
+    def step(self, folder: Path, line: str, data: Inputs) -> None:
+        """Makes files below a folder, or compares what is there, with the words of a line; of a file that is written or compared
+        the first one is its `content`."""
         verb, *words = (unescaped(word.encode()).decode(errors="surrogateescape") for word in line.split(" ")[1:])
         path = folder / words[-1]
-        if verb in ("put", "is"):
-            of, name, end, more = re.fullmatch(r"((\w*)(?:\[:(-?\d+)\])?)(?:\+(.*))?", words[0], re.S).groups()  # type: ignore[union-attr]
-            content = {"": b"", **SAMPLE, **data}[name][: int(end) if end else None] + (more or "").encode()
+        if verb == "put":
             for file in words[1:]:
-                if verb == "put":
-                    write(folder / file, content)
-                else:
-                    self.same(f"{file} is {of}", (folder / file).read_bytes(), content)
+                write(folder / file, content(words[0], data))
+        elif verb == "is":
+            self.same(f"what is in {path.name}", path.read_bytes(), content(words[0], data))
         elif verb == "names":
             self.same(f"the files of {words[0]}", sorted(os.listdir(folder / words[0])), words[1:])
         elif verb == "remove":
