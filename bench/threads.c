@@ -1,12 +1,7 @@
 /* Times look-ups by 1, 2 and 4 threads that share the table of KQRvK in a folder, and probes of positions by threads that share
- * the folder: threads FOLDER. The times are processor time a look-up, the least of fifteen rounds. It also times as many
- * processes with a table each. What the processor's cores and caches cost threads, they cost processes, too, so the ratio of the
- * two is the cost of sharing. */
+ * the folder: threads FOLDER. The times are processor time a look-up, the least of fifteen rounds. */
 #include "placements.h"
 #include <pthread.h>
-#include <sys/mman.h>
-#include <sys/wait.h>
-#include <unistd.h>
 
 enum { LOOK_UPS = 1 << 17, ROUNDS = 15, MOST = 4 };
 
@@ -34,7 +29,7 @@ static struct position {
 } positions[LOOK_UPS];
 static int men_count;
 static uint64_t due; /* the mix of what all look-ups find; 0 before the first one */
-static double (*times)[MOST];
+static double times[MOST];
 static const struct way *way;
 static pthread_barrier_t start;
 
@@ -101,62 +96,33 @@ static double look_all_up(int thread) {
 static void *run(void *number) {
     int thread = (int)(intptr_t)number;
     pthread_barrier_wait(&start);
-    times[0][thread] = look_all_up(thread);
+    times[thread] = look_all_up(thread);
     return NULL;
 }
 
-/* The mean time of `count` threads or processes in one round. */
-static double mean(int count) {
-    double sum = 0;
-    for (int i = 0; i < count; i++) sum += times[0][i];
-    return sum / count;
-}
-
+/* The mean time of `count` threads in one round. */
 static double time_threads(int count) {
     pthread_t threads[MOST];
+    double sum = 0;
     pthread_barrier_init(&start, NULL, (unsigned)count);
     for (int i = 0; i < count; i++)
         if (pthread_create(&threads[i], NULL, run, (void *)(intptr_t)i)) fail("no thread");
-    for (int i = 0; i < count; i++) pthread_join(threads[i], NULL);
+    for (int i = 0; i < count; i++) pthread_join(threads[i], NULL), sum += times[i];
     pthread_barrier_destroy(&start);
-    return mean(count);
-}
-
-static double time_processes(int count) {
-    pid_t children[MOST];
-    for (int i = 0; i < count; i++) {
-        children[i] = fork();
-        if (children[i] == 0) {
-            /* a copy of the table of its own, in which each block is seen first, as those of the threads are */
-            way->open(0);
-            mix_of_all(0);
-            times[0][i] = look_all_up(0);
-            _exit(0);
-        }
-    }
-    for (int i = 0; i < count; i++) {
-        int status = 1;
-        if (children[i] < 0 || waitpid(children[i], &status, 0) < 0 || status != 0) fail("no process");
-    }
-    return mean(count);
+    return sum / count;
 }
 
 static void time_way(const struct way *timed) {
     static const int counts[] = {1, 2, 4};
-    double threads[3] = {0}, processes[3] = {0};
+    double threads[3] = {0};
     way = timed;
     way->open(0);
     for (int i = 1; i < MOST; i++) way->share(i);
     if (due == 0) due = mix_of_all(0);
     for (int round = 0; round < ROUNDS; round++)
-        for (int i = 0; i < 3; i++) {
-            least(&threads[i], time_threads(counts[i]));
-            least(&processes[i], time_processes(counts[i]));
-        }
-    printf("%s: 1, 2, 4 threads %.1f, %.1f, %.1f ns a look-up, ratio of 4 to 1 %.2f; processes %.1f, %.1f, %.1f ns, ratio %.2f; "
-           "ratio of threads to processes at 2 and 4 %.2f, %.2f\n",
-           way->title, threads[0], threads[1], threads[2], threads[2] / threads[0], processes[0], processes[1], processes[2],
-           processes[2] / processes[0], threads[1] / processes[1], threads[2] / processes[2]);
+        for (int i = 0; i < 3; i++) least(&threads[i], time_threads(counts[i]));
+    printf("%s: 1, 2, 4 threads %.1f, %.1f, %.1f ns a look-up, ratio of 4 to 1 %.2f\n", way->title, threads[0], threads[1], threads[2],
+           threads[2] / threads[0]);
 }
 
 /* Draws the indexes, and as many positions. */
@@ -177,8 +143,6 @@ int main(int count, char **words) {
     folder = words[1];
     snprintf(path, sizeof path, "%s/KQRvK.rtbw", folder);
     file = bytes_of(path, &length);
-    times = mmap(NULL, sizeof *times, PROT_READ | PROT_WRITE, MAP_SHARED | MAP_ANONYMOUS, -1, 0);
-    if (times == MAP_FAILED) fail("no memory");
     open_handle(0);
     open_folders(0);
     draw_all();
