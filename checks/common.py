@@ -115,7 +115,7 @@ def content(text: str, data: Inputs) -> bytes:
     found, texts = {"": b"", **SAMPLE, **data}[name], changes.encode().split(b"/")[1:]
     for old, new in zip(texts[::2], texts[1::2]):
         found = found.replace(old, new, 1)
-    return found[: int(end) if end else None] + (more or "").encode()
+    return found[: int(end) if end else None] + os.fsencode(more or "")
 
 
 def with_digests(text: str, data: Inputs) -> str:
