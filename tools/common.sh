@@ -80,9 +80,9 @@ compile_with_library() {
 build_wheel() {
   local package=$root/bindings/python log
   find_python setuptools, pip, wheel
-  rm -rf "$package/build" "$package"/src/*.egg-info
+  rm -rf "$package/build" "$package/LICENSE" "$package"/src/*.egg-info
   log=$(umask 022 && SOURCE_DATE_EPOCH=315532800 "$python" -m pip wheel -q --no-build-isolation --no-deps --no-index -w "$1" "$package" 2>&1) || fail "the wheel is not built: $log"
-  rm -rf "$package/build" "$package"/src/*.egg-info
+  rm -rf "$package/build" "$package/LICENSE" "$package"/src/*.egg-info
 }
 
 # Sets python to PYTHON, or to the first python3 with these modules: find_python MODULE, MODULE..

@@ -15,7 +15,11 @@ from setuptools import Distribution, setup
 from setuptools.command.build_py import build_py
 from wheel.bdist_wheel import bdist_wheel
 
-LINK = Path(__file__).resolve().parents[2] / "tools/link_library"
+HERE = Path(__file__).resolve()
+LINK, LICENSE = HERE.parents[2] / "tools/link_library", HERE.parents[2] / "LICENSE"
+# the wheel has the repository's licence
+if LICENSE.exists():
+    shutil.copyfile(LICENSE, HERE.with_name("LICENSE"))
 
 
 class BuildWithLibrary(build_py):
