@@ -1,10 +1,7 @@
 /* Looks values up in one subtable of a table file, checks its blocks and lists its values, each by szg_block and by
- * plain C of the form of de Man's probing code, and prints the ratios of times; then looks the same values up by the
- * calls of the C library: lookup TABLE LIBRARY. With a third word it prints only what a look-up that verifies its
- * block costs beside one that doesn't. */
+ * plain C of the form of de Man's probing code, and prints the ratios of times: lookup TABLE */
 #include "bench.h"
 #include "../checks/c/table_reader.h"
-#include <dlfcn.h>
 
 enum { LOOK_UPS = 1 << 20, ROUNDS = 15, PASSES = 8, LEAF = 0xFFF, MOST_LENGTHS = 32, MOST_VALUES = 256 };
 
@@ -193,14 +190,6 @@ static struct table t;
 static uint8_t *file;
 static size_t length;
 static uint32_t indexes[LOOK_UPS];
-static struct {
-    __typeof__(szg_get) *get;
-    __typeof__(szg_front_find) *find;
-    __typeof__(szg_front_value) *value;
-    __typeof__(szg_front_get) *front_get;
-} library;
-static szg_table table = SZG_NO_TABLE;
-static szg_front front = SZG_NO_FRONT;
 
 static uint64_t by_c(size_t count) {
     uint64_t mix = 0;
@@ -220,40 +209,6 @@ static uint64_t list_by_block(size_t passes) { return by_block((struct work){.li
 
 /* in a table that stays in a source over memory */
 static uint64_t by_source(size_t count) { return szg_bench_opened((const uint8_t *)"KQRvK", 5, file, length, indexes, count); }
-
-static uint64_t by_get(size_t count) {
-    uint64_t mix = 0;
-    uint16_t value = 0;
-    for (size_t k = 0; k < count; k++) {
-        library.get(&table, 0, 0, indexes[k], &value);
-        mix = 31 * mix + value;
-    }
-    return mix;
-}
-
-static uint64_t by_range(size_t count) {
-    uint64_t mix = 0;
-    uint16_t value = 0;
-    szg_byte_range range = {0, 0};
-    szg_bad_block bad;
-    for (size_t k = 0; k < count; k++) {
-        library.find(&front, 0, 0, indexes[k], &range);
-        library.value(&front, 0, 0, indexes[k], file + range.offset, range.count, &value, &bad);
-        mix = 31 * mix + value;
-    }
-    return mix;
-}
-
-static uint64_t by_front(size_t count) {
-    uint64_t mix = 0;
-    uint16_t value = 0;
-    szg_bad_block bad;
-    for (size_t k = 0; k < count; k++) {
-        library.front_get(&front, file, length, 0, 0, indexes[k], &value, &bad);
-        mix = 31 * mix + value;
-    }
-    return mix;
-}
 
 static uint64_t check_by_c(size_t passes) {
     while (passes--)
@@ -276,7 +231,7 @@ typedef uint64_t way(size_t count);
 
 /* The least time of one of `count` by each way, in seconds; the time of none, which sets up what the way needs, is left out. */
 static void time_ways(way *const *ways, double *best, int number, size_t count) {
-    double whole[4] = {0}, begun[4] = {0};
+    double whole[3] = {0}, begun[3] = {0};
     for (int round = 0; round < ROUNDS; round++) {
         uint64_t due = 0;
         for (int i = 0; i < number; i++) {
@@ -294,26 +249,6 @@ static void time_ways(way *const *ways, double *best, int number, size_t count) 
     for (int i = 0; i < number; i++) best[i] = (whole[i] - begun[i]) / (double)count;
 }
 
-static void *call(void *of, const char *name) {
-    void *found = of ? dlsym(of, name) : NULL;
-    if (!found) fail(name);
-    return found;
-}
-
-/* Opens the table by the C library, which is a shared one here: szg_bench brings the same runtime. */
-static void open_by_library(const char *path) {
-    void *of = dlopen(path, RTLD_NOW | RTLD_LOCAL);
-    __typeof__(szg_open) *open = call(of, "szg_open");
-    __typeof__(szg_open_front) *open_front = call(of, "szg_open_front");
-    szg_answer answer;
-    library.get = call(of, "szg_get");
-    library.find = call(of, "szg_front_find");
-    library.value = call(of, "szg_front_value");
-    library.front_get = call(of, "szg_front_get");
-    if (open("KQRvK", 5, false, file, length, &table, &answer) || open_front("KQRvK", 5, false, file, length, &front, &answer))
-        fail("the table is refused");
-}
-
 static void print_rates(const char *what, way *by_c_alone, way *by_szg) {
     double best[2];
     time_ways((way *const[]){by_c_alone, by_szg}, best, 2, PASSES);
@@ -322,7 +257,7 @@ static void print_rates(const char *what, way *by_c_alone, way *by_szg) {
 }
 
 int main(int argc, char **argv) {
-    if (argc < 3) return 2;
+    if (argc != 2) return 2;
     file = bytes_of(argv[1], &length);
     static reader_table read;
     reader_material material;
@@ -330,24 +265,13 @@ int main(int argc, char **argv) {
     reader_read(&read, &material, false, file, length, false);
     if (read.reason) fail("the table is refused");
     take_table(&t, &read.subtables[0]);
-    open_by_library(argv[2]);
     uint64_t state = 1;
     for (size_t k = 0; k < LOOK_UPS; k++) indexes[k] = draw(&state) % (uint32_t)t.n.size;
-    double best[4];
-    if (argc > 3) {
-        /* of longer blocks fewer values */
-        time_ways((way *const[]){by_get, by_front}, best, 2, ((size_t)LOOK_UPS << 4) >> t.n.block_bits);
-        printf("szg_get %.1f ns, szg_front_get %.1f ns, ratio %.2f\n", 1e9 * best[0], 1e9 * best[1], best[1] / best[0]);
-        return 0;
-    }
-    double called[3];
+    double best[3];
     time_ways((way *const[]){by_c, look_up_by_block, by_source}, best, 3, LOOK_UPS);
-    time_ways((way *const[]){by_c, by_get, by_range}, called, 3, LOOK_UPS);
     printf("%" PRIu64 " values, %u blocks, %u symbols\n", t.n.size, t.n.blocks, t.n.symbols);
     printf("look-up:             C %6.1f ns, szg_block %6.1f ns, ratio %.2f\n", 1e9 * best[0], 1e9 * best[1], best[1] / best[0]);
     printf("by a source:         Opened  %6.1f ns, ratio %.2f\n", 1e9 * best[2], best[2] / best[0]);
-    printf("by the C library:    szg_get %6.1f ns, ratio %.2f; szg_front_find and szg_front_value %6.1f ns, ratio %.2f\n",
-           1e9 * called[1], called[1] / called[0], 1e9 * called[2], called[2] / called[0]);
     print_rates("check of all blocks:", check_by_c, check_by_block);
     print_rates("list of all values: ", list_by_c, list_by_block);
     return 0;

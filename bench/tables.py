@@ -1,9 +1,9 @@
 #!/usr/bin/env python3
-"""Writes a WDL table for timing: tables.py FILE plain|deep [BLOCK_BITS], or tables.py FILE KQRBvK|KQRBNvK
+"""Writes a WDL table for timing: tables.py FILE plain|deep, or tables.py FILE KQRBvK|KQRBNvK
 
 plain, deep: of KQRvK. Side 0 has 1,911,252 values. Plain: drawn from 0 to 4, in words of two and three bits. Deep: short runs of
-them, in words of eleven and twelve bits of symbols that have up to 120 values by deep pairs. A block has 2^BLOCK_BITS bytes, 64
-if nothing is said. PROGRAM builds the table.
+them, in words of eleven and twelve bits of symbols that have up to 120 values by deep pairs. A block has 64 bytes. PROGRAM
+builds the table.
 KQRBvK, KQRBNvK: a file of 76 MB or about 1 GB, whose blocks are zeros, so that it is sparse: it takes 2.3 or 34 MB of the disk.
 Side 0 has 114,675,120 values in 1,146,752 blocks, or 6,765,832,080 in 16,747,110: 4 at even indexes, 2 at odd ones.
 Side 1 of each is constant."""
@@ -25,7 +25,7 @@ SPARSE = {"KQRBvK": ("66 55 44 33 ee", SIZE * 60, 100), "KQRBNvK": ("66 55 44 33
 BLOCK_BITS, SPAN_BITS = 6, 16
 
 
-def build(file, form, block_bits):
+def build(file, form):
     need_program()
     rng = random.Random(1)
     values = rng.choices(range(5), k=SIZE)
@@ -33,7 +33,7 @@ def build(file, form, block_bits):
         lengths = rng.choices([1, 2, 3, 40], [4, 2, 1, 1], k=SIZE)
         values = [value for value, length in zip(values, lengths) for _ in range(length)][:SIZE]
     rounds = "4000" if form == "deep" else "0"
-    words = [PROGRAM, "build", "--block", str(block_bits), "--span", "10", "--rounds", rounds, "-o", file]
+    words = [PROGRAM, "build", "--block", str(BLOCK_BITS), "--span", "10", "--rounds", rounds, "-o", file]
     subprocess.run(words, input=wdl_dump("KQRvK", "6655ee44", [values, [2] * SIZE]), check=True)
 
 
@@ -55,8 +55,8 @@ def write_sparse(path, men, size, held):
         file.write(bytes(16))
 
 
-words = arguments({"file": Path, "form": str, "block": BLOCK_BITS})
+words = arguments({"file": Path, "form": str})
 if words.form in SPARSE:
     write_sparse(words.file, *SPARSE[words.form])
 else:
-    build(words.file, words.form, words.block)
+    build(words.file, words.form)

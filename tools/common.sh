@@ -64,9 +64,9 @@ find_fathom() {
   fi
 }
 
-# Sets bench to the static libraries for a program that calls szg_bench, and builds that and these targets: find_bench [TARGET..]
+# Sets bench to the static libraries for a program that calls szg_bench, and builds that
 find_bench() {
-  "$root/tools/build" szg_bench "$@"
+  "$root/tools/build" szg_bench
   bench=("$root/crates/szg_bench/out/libszg_bench.a" "${KIT:-$(dirname "$(rt doc)")}/c/liblibc_c.a")
 }
 
