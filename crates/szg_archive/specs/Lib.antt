@@ -1,0 +1,9 @@
+pub mod Verdicts
+pub mod Lines
+pub mod Requested
+pub mod Records
+pub mod Hashing
+pub mod Logs
+pub mod Shards
+pub use Rattle.szg_named.specs.Named
+pub use Rattle.szg_named.specs.Texts

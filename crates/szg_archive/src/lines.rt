@@ -1,0 +1,222 @@
+//! The lines of a report.
+ghost use Rattle.std.specs.Prelude.{◌≡◌, ◌++◌, ◌∷◌, [], ◌+◌, ◌/◌, ◌%◌, ◌^◌, ◌<◌, IfOk, OnOk, string_bytes};
+ghost use Rattle.szg_archive.specs.Records.{escaped_byte_in, escaped_in, json_byte};
+ghost use Rattle.szg_archive.specs.Lines.{IsLine, IsVerdictText, escaped, escaped_byte, hex_digit, path_text, skip_reason, more_text, sum_word, summary_text};
+
+use crate::file_verdict::{FileVerdict, Skip, SumFault};
+use crate::report_format::ReportFormat;
+use crate::stop::CheckCounts;
+use std::alloc::{AllocError, Global};
+use szg_named::{error_text, fault_text, name_word, reason_word};
+
+/// Returns the hexadecimal digit of a number below 16.
+fn hex_digit(value: u8) -> u8
+    requires { value < 16 }
+    ensures { result ≡ hex_digit value }
+{
+    if value < 10 { value + 48 } else { value + 87 }
+}
+
+/// Appends a byte of a path: control characters and backslashes as `\x` and two digits.
+fn push_escaped(text: &mut Vec<u8>, byte: u8) -> Result<(), AllocError>
+    ensures { OnOk result (text.new.items ≡ text.old.items ++ escaped_byte byte) }
+{
+    if byte < 32 || byte == 127 || byte == b'\\' {
+        text.extend_from_slice(b"\\x")?;
+        return push_hex(text, byte);
+    }
+    Ok(text.push(byte)?)
+}
+
+/// Appends a byte's two hexadecimal digits.
+fn push_hex(text: &mut Vec<u8>, byte: u8) -> Result<(), AllocError>
+    ensures { OnOk result (text.new.items ≡ text.old.items ++ (hex_digit (byte / 16) ∷ hex_digit (byte % 16) ∷ [])) }
+{
+    text.push(hex_digit(byte / 16))?;
+    Ok(text.push(hex_digit(byte % 16))?)
+}
+
+/// Appends a byte of a JSON string: quotes and backslashes after a backslash, control characters by their number.
+fn push_json(text: &mut Vec<u8>, byte: u8) -> Result<(), AllocError>
+    ensures { OnOk result (text.new.items ≡ text.old.items ++ json_byte byte) }
+{
+    if byte == b'"' || byte == b'\\' {
+        text.push(b'\\')?;
+        return Ok(text.push(byte)?);
+    }
+    if byte < 32 || byte == 127 {
+        text.extend_from_slice(b"\\u00")?;
+        return push_hex(text, byte);
+    }
+    Ok(text.push(byte)?)
+}
+
+/// Appends a byte of a text as a report in this format has it.
+fn push_escaped_in(text: &mut Vec<u8>, format: ReportFormat, byte: u8) -> Result<(), AllocError>
+    ensures { OnOk result (text.new.items ≡ text.old.items ++ escaped_byte_in format byte) }
+{
+    match format {
+        ReportFormat::Text | ReportFormat::Tsv => push_escaped(text, byte),
+        ReportFormat::Json => push_json(text, byte),
+    }
+}
+
+/// A text with its control characters and backslashes, in JSON also its quotes, escaped: it stays within one line and one
+/// field.
+pub(crate) fn escaped_in(
+    alloc: Global,
+    format: ReportFormat,
+    source: &str,
+) -> Result<Vec<u8>, AllocError>
+    ensures { IfOk result (λ text. text.items ≡ escaped_in format source.now) }
+{
+    let mut text = Vec::new(alloc);
+    'bytes: for byte in source.as_bytes() {
+        push_escaped_in(&mut text, format, *byte)?;
+    }
+    Ok(text)
+}
+
+/// Returns the path of a file in a line: escaped, unless the verdict says that it is already.
+pub(crate) fn path_text(
+    alloc: Global,
+    verdict: &FileVerdict,
+    path: &str,
+) -> Result<Vec<u8>, AllocError>
+    ensures { IfOk result (λ text. text.items ≡ path_text verdict.now path.now) }
+{
+    match verdict {
+        FileVerdict::NoText => {
+            let mut text = Vec::new(alloc);
+            text.extend_from_slice(path.as_bytes())?;
+            Ok(text)
+        }
+        _ => escaped_in(alloc, ReportFormat::Text, path),
+    }
+}
+
+/// Returns a path as a line has it: each control character and each backslash is `\xNN`.
+pub fn escaped_path(alloc: Global, path: &str) -> Result<String, AllocError> {
+    let escaped = escaped_in(alloc, ReportFormat::Text, path)?;
+    match String::from_utf8(escaped) {
+        Ok(text) => Ok(text),
+        Err(_) => String::from_str(alloc, path),
+    }
+}
+
+/// Returns the line of a file: its path and its verdict.
+pub fn verdict_line(
+    alloc: Global,
+    path: &str,
+    verdict: &FileVerdict,
+    allow_trailing: bool,
+) -> Result<Vec<u8>, AllocError>
+    ensures { IfOk result (λ line. IsLine allow_trailing path.now verdict.now line.items) }
+{
+    let mut line = path_text(alloc, verdict, path)?;
+    let rest = verdict_text(alloc, verdict, allow_trailing)?;
+    line.extend_from_slice(rest.as_bytes())?;
+    Ok(line)
+}
+
+/// Returns the text of a verdict, up to the end of its line.
+fn verdict_text(
+    alloc: Global,
+    verdict: &FileVerdict,
+    allow_trailing: bool,
+) -> Result<String, AllocError>
+    ensures { IfOk result (λ text. IsVerdictText allow_trailing verdict.now (string_bytes text)) }
+{
+    match verdict {
+        FileVerdict::Whole(size) => format!(in alloc; ": ok {size}\n"),
+        FileVerdict::Trailing(size) if allow_trailing => {
+            format!(in alloc; ": ok {size}, more bytes follow\n")
+        }
+        FileVerdict::Kept(size) => format!(in alloc; ": kept {size}\n"),
+        FileVerdict::Ending => format!(in alloc; ": refused name: Ending\n"),
+        FileVerdict::Name(fault) => {
+            let word = name_word(*fault);
+            format!(in alloc; ": refused name: {word}\n")
+        }
+        FileVerdict::At(offset, reason) => {
+            let word = reason_word(*reason);
+            format!(in alloc; ": refused at {offset}: {word}\n")
+        }
+        FileVerdict::Trailing(size) => format!(in alloc; ": refused at {size}: Trailing\n"),
+        FileVerdict::Unopened(fault) => {
+            let reason = fault_text(alloc, fault)?;
+            format!(in alloc; ": {reason}\n")
+        }
+        FileVerdict::Unread(error) => {
+            let reason = error_text(alloc, error)?;
+            format!(in alloc; ": {reason}\n")
+        }
+        FileVerdict::NoText => format!(in alloc; ": {NO_TEXT}\n"),
+        FileVerdict::Empty => format!(in alloc; ": {EMPTY}\n"),
+        FileVerdict::Skipped(skip) => {
+            let reason = skip_reason(*skip);
+            format!(in alloc; ": skipped: {reason}\n")
+        }
+        FileVerdict::Sum(fault) => {
+            let word = sum_word(*fault);
+            format!(in alloc; ": refused sum: {word}\n")
+        }
+    }
+}
+
+/// Why a file whose name is not UTF-8 is unread.
+pub(crate) const NO_TEXT: &str = "its name is not UTF-8";
+
+/// Why a folder without table files is unread.
+pub(crate) const EMPTY: &str = "no table file is below it";
+
+/// Returns why a path is not checked.
+pub(crate) fn skip_reason(skip: Skip) -> &'static str
+    ensures { result.now ≡ skip_reason skip }
+{
+    match skip {
+        Skip::Ending => "it looks like a table, and ends in neither .rtbw nor .rtbz",
+        Skip::Loop => "it leads to a folder that it is in",
+        Skip::Again => "another link led to this folder",
+    }
+}
+
+/// Returns the word for what lists of sums say against a file: the name of its variant.
+pub(crate) fn sum_word(fault: SumFault) -> &'static str
+    ensures { result.now ≡ sum_word fault }
+{
+    match fault {
+        SumFault::Differs => "Differs",
+        SumFault::Unlisted => "Unlisted",
+        SumFault::Missing => "Missing",
+    }
+}
+
+/// Returns the summary: the number of files, and how many of them are good, refused, unread and, if there are any, left out;
+/// and the number of paths that were skipped, if there are any.
+pub fn summary_line(alloc: Global, tally: &CheckCounts) -> Result<String, AllocError>
+    requires { tally.now.good + tally.now.refused + tally.now.unread + tally.now.kept < 2 ^ 64 }
+    ensures { IfOk result (λ line. string_bytes line ≡ summary_text tally.now) }
+{
+    let CheckCounts {
+        good,
+        refused,
+        unread,
+        kept,
+        skipped,
+    } = *tally;
+    let count = tally.files();
+    let left = more_text(alloc, "kept", kept)?;
+    let more = more_text(alloc, "skipped", skipped)?;
+    format!(in alloc; "files {count}: ok {good}, refused {refused}, unread {unread}{left}{more}\n")
+}
+
+/// Returns the part of a summary about what there may be none of: nothing if there is none.
+fn more_text(alloc: Global, word: &str, count: u64) -> Result<String, AllocError>
+    ensures { IfOk result (λ text. string_bytes text ≡ more_text word.now count) }
+{
+    if count == 0 {
+        return Ok(String::new(alloc));
+    }
+    format!(in alloc; ", {word} {count}")
+}

@@ -1,7 +1,0 @@
-use Rattle.std.proofs.Common.{◌≡◌, map, take}
-use Rattle.szg_named.specs.Shards.{shard_after}
-use Rattle.szg_named.specs.Verdicts.{listed_of}
-use Rattle.szg_named.proofs.entries.entries_in.Given as goal
-
-abbrev pub invariant-entries : goal.invariant-entries
-invariant-entries l = map listed_of l.chosen.items ≡ shard_after l.shard 0 (map listed_of (take l.number l.entries))

@@ -1,7 +1,0 @@
-use Rattle.std.proofs.Math.Logic.{∥∥₁_elim}
-use denote.Struct.Props.{props}
-use Rattle.szg_named.proofs.hashed.Hashed+F+Sha256.digest.Goals as goal
-
--- the hasher has taken the bytes that were read
-pub returns : goal.returns
-returns g c = ∥∥₁_elim c.args.self.fed (search props) (λ taken. c.sha256_of.ensures _ taken)

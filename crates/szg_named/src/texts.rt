@@ -1,0 +1,71 @@
+//! The texts of faults.
+ghost use Rattle.std.specs.Prelude.{◌≡◌};
+ghost use Rattle.szg_named.specs.Texts.{name_word, reason_word};
+
+use std::alloc::{AllocError, Global};
+use std::io::{Error, ErrorKind};
+use szg_file::Reason;
+use szg_files::FileFault;
+use szg_values::NameFault;
+
+/// Returns the reason why a file is not opened.
+pub fn fault_text(alloc: Global, fault: &FileFault) -> Result<String, AllocError> {
+    match fault {
+        FileFault::NotRegular => String::from_str(alloc, "not a regular file"),
+        FileFault::OtherTable => String::from_str(alloc, "its name is another table's"),
+        FileFault::Ended => error_text(alloc, &Some(ErrorKind::UnexpectedEof.into())),
+        FileFault::System(error) => error_text(alloc, &Some(*error)),
+        FileFault::Memory => String::from_str(alloc, "out of memory"),
+    }
+}
+
+/// Returns the system's reason, without its number.
+pub fn error_text(alloc: Global, error: &Option<Error>) -> Result<String, AllocError> {
+    let Some(error) = error else {
+        return String::from_str(alloc, "device fault");
+    };
+    let text = format!(in alloc; "{error}")?;
+    match text.rsplit_once(" (os error ") {
+        Some((reason, _)) => String::from_str(alloc, reason),
+        None => Ok(text),
+    }
+}
+
+/// Returns the word for a fault of a name: the name of its variant.
+pub fn name_word(fault: NameFault) -> &'static str
+    ensures { result.now ≡ name_word fault }
+{
+    match fault {
+        NameFault::Letter => "Letter",
+        NameFault::King => "King",
+        NameFault::Order => "Order",
+        NameFault::Sides => "Sides",
+        NameFault::Men => "Men",
+    }
+}
+
+/// Returns the word for a failing check of a file: the name of its variant.
+pub fn reason_word(reason: Reason) -> &'static str
+    ensures { result.now ≡ reason_word reason }
+{
+    match reason {
+        Reason::Truncated => "Truncated",
+        Reason::Magic => "Magic",
+        Reason::SplitBit => "SplitBit",
+        Reason::PawnBit => "PawnBit",
+        Reason::Pieces => "Pieces",
+        Reason::PawnsFirst => "PawnsFirst",
+        Reason::OrderPlace => "OrderPlace",
+        Reason::BlockBits => "BlockBits",
+        Reason::SpanBits => "SpanBits",
+        Reason::CodeLengths => "CodeLengths",
+        Reason::LowestOrder => "LowestOrder",
+        Reason::TooFull => "TooFull",
+        Reason::Child => "Child",
+        Reason::Cycle => "Cycle",
+        Reason::LongSymbol => "LongSymbol",
+        Reason::ShortTotal => "ShortTotal",
+        Reason::SparseEntry => "SparseEntry",
+        Reason::Word => "Word",
+    }
+}
