@@ -17,11 +17,11 @@ use Rattle.szg_commands.specs.declared.request.Task.TheVariants.{OnTable, Build}
 use Rattle.szg_io.specs.Device.{HasFailed}
 use Rattle.szg_io.specs.declared.device.Input as input
 use Rattle.szg_io.specs.declared.device.Output as output
-use Rattle.szg_named.specs.Verdicts.{IsFoundReport}
-use Rattle.szg_named.specs.declared.many.CheckOptions.{CheckOptions}
-use Rattle.szg_named.specs.declared.stop.CheckStop.{CheckStop}
-use Rattle.szg_named.specs.declared.stop.CheckStop.TheVariants as check_stops
-use Rattle.szg_named.specs.declared.many.CheckReport.{CheckReport}
+use Rattle.szg_archive.specs.Verdicts.{IsFoundReport}
+use Rattle.szg_archive.specs.declared.options.CheckOptions.{CheckOptions}
+use Rattle.szg_archive.specs.declared.stop.CheckStop.{CheckStop}
+use Rattle.szg_archive.specs.declared.stop.CheckStop.TheVariants as check_stops
+use Rattle.szg_archive.specs.declared.many.CheckReport.{CheckReport}
 use Rattle.szg_commands.specs.OnFiles.{AreChecked, Asked, AsksToCheck, EndsCheck, EndsTask, EndsWell, HasDone, HasDoneTask, HasRefused, HasShort, HasStopped, IsAskedReport, IsComplete, IsManifest, IsPublishedBy, IsShortOfMemory, IsTargetOf, MeetsTask}
 use Rattle.szg_commands.specs.declared.command_line.CommandForm.{CommandForm}
 use Rattle.szg_commands.specs.declared.on_files.Ending.{Ending}

@@ -6,9 +6,9 @@ use Rattle.std.proofs.lemmas.Bool.{eq-eqb, cases_lt, lt-ltb, eqb-true}
 use Rattle.std.proofs.lemmas.List.{append_assoc}
 use Rattle.std.proofs.lemmas.List.Sorted.{IsPermutation-append_left, IsPermutation-append_right, IsPermutation-append_comm, IsPermutation-cons, IsPermutation-refl, IsPermutation-trans}
 use Rattle.szg_commands.specs.Laws.{ShardsShareFiles, shards_from}
-use Rattle.szg_named.specs.Shards.{has, shard_after, shard_of, taken_of}
-use Rattle.szg_named.specs.Verdicts.{Listed}
-use Rattle.szg_named.specs.declared.shard.FileShard.{FileShard}
+use Rattle.szg_archive.specs.Shards.{has, shard_after, shard_of, taken_of}
+use Rattle.szg_archive.specs.Verdicts.{Listed}
+use Rattle.szg_archive.specs.declared.shard.FileShard.{FileShard}
 
 abbrev shard : ℕ → ℕ → FileShard
 shard count number = record { number = number; count = count }

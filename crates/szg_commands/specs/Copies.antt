@@ -4,11 +4,11 @@ use Rattle.sha2.specs.Sha256.{sha256}
 use Rattle.szg_io.specs.declared.device.Input as input
 use Rattle.szg_files.specs.Draft.{published_target, published_text}
 use Rattle.szg_files.specs.declared.draft.Published.{Published}
-use Rattle.szg_named.specs.Verdicts.{IsFileVerdict, plain_options}
-use Rattle.szg_named.specs.declared.due.Due.{Due}
-use Rattle.szg_named.specs.declared.file_verdict.FileVerdict.{FileVerdict}
-use Rattle.szg_named.specs.declared.file_verdict.FileVerdict.TheVariants.{Whole}
-use Rattle.szg_named.specs.declared.one.CheckedFile.{CheckedFile}
+use Rattle.szg_archive.specs.Verdicts.{IsFileVerdict, plain_options}
+use Rattle.szg_archive.specs.declared.due.Due.{Due}
+use Rattle.szg_archive.specs.declared.file_verdict.FileVerdict.{FileVerdict}
+use Rattle.szg_archive.specs.declared.file_verdict.FileVerdict.TheVariants.{Whole}
+use Rattle.szg_archive.specs.declared.one.CheckedFile.{CheckedFile}
 use Rattle.szg_commands.specs.declared.copying.Copied.{Copied}
 
 -- The file at a path was checked: it is a table and nothing else, and its digest is the one that is due. The copy is at the

@@ -4,14 +4,14 @@ use Rattle.std.specs.Str.{bytes_eq}
 use Rattle.clap.specs.Matches.{first_value}
 use Rattle.clap.specs.declared.parser.matches.Found.{Found}
 use Rattle.szg_named.specs.Named.{name_given, named_as}
-use Rattle.szg_named.specs.declared.many.CheckOptions.{CheckOptions}
+use Rattle.szg_archive.specs.declared.options.CheckOptions.{CheckOptions}
 use Rattle.szg_values.specs.declared.Kind.{Kind}
 use Rattle.szg_commands.specs.Requested.{IsPackingIn, IsRequestOn, parsed_report_format, words_of}
 use Rattle.szg_commands.specs.Fronts.{IsLookUp}
 use Rattle.szg_commands.specs.Words.{is_word, parsed_kind, word_of}
 use Rattle.szg_commands.specs.declared.file_words.FileJob.{FileJob}
 use Rattle.szg_commands.specs.declared.file_words.FileJob.TheVariants.{Check, LookUp, Run}
-use Rattle.szg_named.specs.declared.shard.FileShard.{FileShard}
+use Rattle.szg_archive.specs.declared.shard.FileShard.{FileShard}
 use Rattle.szg_commands.specs.declared.request.Request.{Request}
 use Rattle.szg_commands.specs.declared.request.Task.{Task}
 use Rattle.szg_commands.specs.declared.request.Task.TheVariants.{OnTable, Build}

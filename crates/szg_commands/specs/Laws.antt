@@ -1,8 +1,8 @@
 -- Laws of the commands on files.
 use Rattle.std.specs.Prelude.{ℕ, zero, suc, ◌+◌, ◌<◌, List, [], ◌∷◌, flat_map, IsPermutation, Some}
-use Rattle.szg_named.specs.Shards.{shard_of}
-use Rattle.szg_named.specs.Verdicts.{Listed}
-use Rattle.szg_named.specs.declared.shard.FileShard.{FileShard}
+use Rattle.szg_archive.specs.Shards.{shard_of}
+use Rattle.szg_archive.specs.Verdicts.{Listed}
+use Rattle.szg_archive.specs.declared.shard.FileShard.{FileShard}
 
 -- the shards of `count` from number `first` on, so many
 abbrev pub shards_from : ℕ → ℕ → ℕ → List FileShard

@@ -13,12 +13,12 @@ use Rattle.szg_files.specs.FileSystem.{IsOpened}
 use Rattle.szg_files.specs.declared.draft.Published.{Published}
 use Rattle.szg_files.specs.declared.file_system.FileFault.{FileFault}
 use Rattle.szg_sums.specs.declared.lists.Sums.{Sums}
-use Rattle.szg_named.specs.Requested.{files_to_check}
-use Rattle.szg_named.specs.Verdicts.{IsFoundReport, options_with, plain_options}
-use Rattle.szg_named.specs.declared.log.Log.{Log}
-use Rattle.szg_named.specs.declared.many.CheckReport.{CheckReport}
-use Rattle.szg_named.specs.declared.many.CheckOptions.{CheckOptions}
-use Rattle.szg_named.specs.declared.stop.CheckStop.TheVariants as check_stops
+use Rattle.szg_archive.specs.Requested.{files_to_check}
+use Rattle.szg_archive.specs.Verdicts.{IsFoundReport, options_with, plain_options}
+use Rattle.szg_archive.specs.declared.log.Log.{Log}
+use Rattle.szg_archive.specs.declared.many.CheckReport.{CheckReport}
+use Rattle.szg_archive.specs.declared.options.CheckOptions.{CheckOptions}
+use Rattle.szg_archive.specs.declared.stop.CheckStop.TheVariants as check_stops
 use Rattle.szg_commands.specs.Answers.{IsAnswer}
 use Rattle.szg_commands.specs.Builds.{IsBuiltIn, IsTextOf}
 use Rattle.szg_commands.specs.Chosen.{AsksFor, AsksForJob, AsksForNoJob, AsksForNone}

@@ -1,8 +1,8 @@
 -- The program's status, by the ending of a run.
 use Rattle.std.specs.Prelude.{◌≡◌, ◌⊎◌, ℕ, nat_lt, Ok, Err, if◌then◌else◌}
-use Rattle.szg_named.specs.declared.stop.CheckStop.{CheckStop}
-use Rattle.szg_named.specs.declared.stop.CheckStop.TheVariants as check_stops
-use Rattle.szg_named.specs.declared.stop.CheckCounts.{CheckCounts}
+use Rattle.szg_archive.specs.declared.stop.CheckStop.{CheckStop}
+use Rattle.szg_archive.specs.declared.stop.CheckStop.TheVariants as check_stops
+use Rattle.szg_archive.specs.declared.stop.CheckCounts.{CheckCounts}
 use Rattle.szg_commands.specs.Outcome.{OnDone, OnRefused, status_of}
 use Rattle.szg_commands.specs.declared.on_files.Ending.{Ending}
 use Rattle.szg_commands.specs.declared.on_files.Ending.TheVariants.{Checked, Listed, Done, Refused, Failed, BadLine, Device, Memory, Words}

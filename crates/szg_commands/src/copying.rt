@@ -15,13 +15,14 @@ use std::fs::Metadata;
 use std::io::ErrorKind;
 use std::path::Path;
 use std::rt::Files;
+use szg_archive::{
+    CheckCounts, CheckOptions, CheckReport, CheckStop, Due, FileVerdict, check_path, due_of,
+    read_lists, summary_line, verdict_line,
+};
 use szg_build::StreamFault;
 use szg_files::{Draft, FileFault, FileSystem, Lock, Published, Reasons, is_folder};
 use szg_io::{Input, Output, give_whole, take_whole};
-use szg_named::{
-    CheckCounts, CheckOptions, CheckReport, CheckStop, Due, FileVerdict, check_path, due_of,
-    named_by, read_lists, summary_line, verdict_line,
-};
+use szg_named::named_by;
 use szg_sums::{Hasher, Sha256, Sums, sha256_of};
 
 /// What a command line asks to copy.

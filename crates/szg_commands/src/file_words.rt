@@ -19,7 +19,8 @@ use crate::request::{
 };
 use clap::{ArgMatches, Error};
 use std::alloc::{AllocError, Global};
-use szg_named::{CheckOptions, FileShard, Naming, ReportFormat, named_as, named_by};
+use szg_archive::{CheckOptions, FileShard, ReportFormat};
+use szg_named::{Naming, named_as, named_by};
 use szg_values::Material;
 
 /// The check of files and of what is below folders.

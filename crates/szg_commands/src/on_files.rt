@@ -3,8 +3,8 @@ ghost use Rattle.std.specs.Prelude.{◌≡◌, ◌⊎◌, [], None, Some, IfOk, 
 ghost use Rattle.szg_files.specs.Draft.{draft_target, published_target, published_text, text_of};
 ghost use Rattle.szg_io.specs.Device.{HasFailed};
 ghost use Rattle.szg_io.specs.Moved.{Gives};
-ghost use Rattle.szg_named.specs.Requested.{files_to_check};
-ghost use Rattle.szg_named.specs.Verdicts.{IsFoundReport, IsReport, plain_options};
+ghost use Rattle.szg_archive.specs.Requested.{files_to_check};
+ghost use Rattle.szg_archive.specs.Verdicts.{IsFoundReport, IsReport, plain_options};
 ghost use Rattle.szg_commands.specs.Fronts.{IsLookUp};
 ghost use Rattle.szg_commands.specs.OnFiles.{AreChecked, EndsCheck, IsAskedReport, IsGiven, EndsTask, EndsWell, HasDoneTask, HasLookedUp, HasRefusedLookUp, HasRefusedTask, IsListing, IsShortOfMemory, IsTargetOf, IsUnwritten, ListsFile, ListsValues, MeetsTask, asked_of};
 ghost use Rattle.szg_commands.specs.RefusalLines.{refusal_line};
@@ -23,14 +23,15 @@ use crate::streaming::{device_stop, lists_values, stream_from};
 use std::alloc::Global;
 use std::rt::Files;
 use std::time::Clock;
+use szg_archive::{
+    CheckOptions, CheckReport, ListFailure, Log, check_files, check_found, files_to_check, kind_at,
+    read_lists,
+};
 use szg_build::Watcher;
 use szg_file::{ReadFault, open_front};
 use szg_files::{Disk, Draft, FileFault, FileSystem, Lock, Published, Reasons};
 use szg_io::{Input, Output, give_whole};
-use szg_named::{
-    CheckOptions, CheckReport, ListFailure, Log, check_files, check_found, files_to_check, kind_at,
-    named_by, read_lists,
-};
+use szg_named::named_by;
 use szg_sums::Sums;
 use szg_values::{Kind, Material};
 
@@ -258,7 +259,7 @@ pub enum LineKind {
 #[derive(Drop)]
 pub enum Ending<'a> {
     /// Files were checked, up to a fault of the output or of memory.
-    Checked(Result<CheckReport, szg_named::CheckStop>),
+    Checked(Result<CheckReport, szg_archive::CheckStop>),
     /// Files were checked, and the list of the digests of those that passed was written, or could not be.
     Listed {
         report: CheckReport,

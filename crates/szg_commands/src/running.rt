@@ -16,10 +16,10 @@ use std::io::{self, BufWriter, Read, Write};
 use std::process::ExitCode;
 use std::rt::Files;
 use std::time::Clock;
+use szg_archive::escaped_path;
 use szg_build::Watcher;
 use szg_files::{Disk, Lock, Monitored};
 use szg_io::{ReadAhead, Std};
-use szg_named::escaped_path;
 use szg_verified::Progress;
 
 /// The words of the command line.

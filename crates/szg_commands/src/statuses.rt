@@ -9,7 +9,8 @@ use crate::outcome::Outcome;
 use std::alloc::AllocError;
 use std::io;
 use std::process::ExitCode;
-use szg_named::{CheckCounts, CheckStop, escaped_path, fault_text};
+use szg_archive::{CheckCounts, CheckStop, escaped_path};
+use szg_named::fault_text;
 
 /// The status where the words of the command line can't be had: one is no text, or memory is short.
 pub fn no_words_status(rt: &impl Eprint, error: &io::Error) -> ExitCode

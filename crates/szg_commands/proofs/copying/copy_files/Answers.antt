@@ -1,5 +1,5 @@
 use Rattle.std.proofs.Common.{false, refl, arith}
-use Rattle.szg_named.proofs.Reporting.{counts_once}
+use Rattle.szg_archive.proofs.Reporting.{counts_once}
 use Rattle.szg_commands.proofs.copying.copy_files.Goals as goal
 
 pub paths-init : goal.paths-init

@@ -1,5 +1,5 @@
 use Rattle.std.proofs.Common.{map, inl, inr, None, refl, rules, sym}
-use Rattle.szg_named.specs.Verdicts.{plain_options}
+use Rattle.szg_archive.specs.Verdicts.{plain_options}
 use Rattle.szg_commands.proofs.Endings.{EndsTask-then, check_ends_well, checked_so, ends_well, if_ok_then, listed_or}
 use Rattle.szg_commands.specs.OnFiles.{asked_of, plain_check}
 use Rattle.szg_commands.proofs.Outcomes.{has_run_none}
