@@ -20,9 +20,8 @@ use Rattle.szg_archive.specs.declared.hashed.Hashed.{Hashed}
 use Rattle.szg_archive.specs.Verdicts.{IsComparedTable, IsDigestedOn, IsDueVerdictOn, IsFoundOn, IsHashedVerdictOn, IsReadOn, IsVerdictOn, found_as, is_table}
 use Rattle.szg_archive.specs.declared.due.Due.{Due}
 use Rattle.szg_archive.specs.declared.due.Due.TheVariants as dues
-use Rattle.szg_archive.specs.declared.file_verdict.SumFault.TheVariants.{Differs}
 use Rattle.szg_archive.specs.declared.file_verdict.FileVerdict.{FileVerdict}
-use Rattle.szg_archive.specs.declared.file_verdict.FileVerdict.TheVariants.{Whole, Ending, Name, At, Trailing, Unopened, Unread, NoText, Empty, Skipped, Kept, Sum}
+use Rattle.szg_archive.specs.declared.file_verdict.FileVerdict.TheVariants.{Whole, Ending, Name, At, Trailing, Unopened, Unread, NoText, Empty, Skipped, Kept, Differs, Unlisted, Missing}
 
 -- what holds if reading on failed, or didn't
 pub on_err : {A E P : Type 0} (r : Result A E) → is_err r ≡ true → OnErr r P → P
@@ -69,7 +68,9 @@ module _ {F H : Type 0} {hashing : hasher.Ghosts H} (device : input.Ghosts F) wh
   verdict_on material kind old new Empty h = absurd h
   verdict_on material kind old new (Kept size) h = absurd h
   verdict_on material kind old new (Skipped skip) h = absurd h
-  verdict_on material kind old new (Sum fault) h = absurd h
+  verdict_on material kind old new Differs h = absurd h
+  verdict_on material kind old new Unlisted h = absurd h
+  verdict_on material kind old new Missing h = absurd h
 
   compared_on : (table : Bool) (has : List ℕ → Bool) (checked read : Hashed F H device hashing) (found verdict : FileVerdict) → IsComparedTable table over has checked read found verdict →
       IsComparedTable table device has checked.input read.input found verdict
@@ -91,7 +92,7 @@ module _ {F H : Type 0} {hashing : hasher.Ghosts H} (device : input.Ghosts F) wh
 
   -- a table is compared with the digest that is due
   pub compared : (has : List ℕ → Bool) (material : Sides) (kind : Kind) (file input : F) (old new read : Hashed F H device hashing) (found after : FileVerdict) → old.input ≡ file → input ≡ read.input → IsVerdictOn over material kind old new found → is_table found ≡ true →
-      IsReadOn device new.input read.input (λ m. if has m then found else Sum Differs) (λ error. Unread error) after → IsHashedVerdictOn device has material kind file input after
+      IsReadOn device new.input read.input (λ m. if has m then found else Differs) (λ error. Unread error) after → IsHashedVerdictOn device has material kind file input after
   compared has material kind file input old new read found after is same h table c =
       subst (λ (f : F). IsHashedVerdictOn device has material kind f input after) is
       (subst (λ (i : F). IsHashedVerdictOn device has material kind old.input i after) (sym same)
@@ -112,11 +113,11 @@ module _ {F H : Type 0} {hashing : hasher.Ghosts H} (device : input.Ghosts F) wh
       (read.input, (checked.input, verdict, due_on due material kind old checked verdict h, rw table c))
 
 -- the verdict where a digest is due, whose algorithm is known
-pub summed : {F E : Type 0} (device : input.Ghosts F) (sum form : Digest) (material : Sides) (kind : Kind) (file : F) (result : Result (Checked F) E) → sum ≡ form →
-    IfOk result (λ checked. IsHashedVerdictOn device (λ m. has_sum form m) material kind file checked.input checked.verdict) →
-    IfOk result (λ checked. IsHashedVerdictOn device (λ m. has_sum sum m) material kind file checked.input checked.verdict)
-summed device sum form material kind file result is h =
-    subst (λ (s : Digest). IfOk result (λ checked. IsHashedVerdictOn device (λ m. has_sum s m) material kind file checked.input checked.verdict)) (sym is) h
+pub summed : {F E : Type 0} (device : input.Ghosts F) (due : Due) (sum : Digest) (material : Sides) (kind : Kind) (file : F) (result : Result (Checked F) E) → due ≡ dues.Sum sum →
+    IfOk result (λ checked. IsHashedVerdictOn device (λ m. has_sum sum m) material kind file checked.input checked.verdict) →
+    IfOk result (λ checked. IsDueVerdictOn device due material kind file checked.input checked.verdict)
+summed device due sum material kind file result is h =
+    subst (λ (d : Due). IfOk result (λ checked. IsDueVerdictOn device d material kind file checked.input checked.verdict)) (sym is) h
 
 -- what was found where a digest is asked for, and where none is
 module _ {F : Type 0} (device : input.Ghosts F) (has : Bool) (due : Due) (material : Sides) (kind : Kind) (file : F) where

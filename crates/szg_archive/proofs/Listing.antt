@@ -5,8 +5,7 @@ use Rattle.szg_archive.specs.Shards.{has, shard_after, taken_of}
 use Rattle.szg_archive.specs.declared.shard.FileShard.{FileShard}
 use Rattle.szg_archive.specs.Verdicts.{AllMissing, AreListed, AreMissing, IsListedAt, Listed, file_at, listed_of}
 use Rattle.szg_sums.specs.declared.lists.Sums.{Sums}
-use Rattle.szg_archive.specs.declared.file_verdict.FileVerdict.TheVariants.{Sum}
-use Rattle.szg_archive.specs.declared.file_verdict.SumFault.TheVariants.{Missing}
+use Rattle.szg_archive.specs.declared.file_verdict.FileVerdict.TheVariants.{Missing}
 use Rattle.szg_archive.specs.declared.entries.PathToCheck.{PathToCheck}
 
 abbrev texts : List (Bor (List ℕ)) → List (List ℕ)
@@ -40,12 +39,12 @@ listed_next paths i d old here below h one =
     (subst (λ (z : List Listed). AreListed (texts (take i paths) ++ (get_or paths i d).now ∷ []) z) (sym (map-append listed_of old here))
     (listed_more (texts (take i paths)) (map listed_of old) (get_or paths i d).now (map listed_of here) h one))
 
-all_missing_more : (listed : List Listed) (one : Listed) → AllMissing listed → one.1 ≡ Some (Sum Missing) → AllMissing (listed ++ one ∷ [])
+all_missing_more : (listed : List Listed) (one : Listed) → AllMissing listed → one.1 ≡ Some Missing → AllMissing (listed ++ one ∷ [])
 all_missing_more [] one all is = (is, tt)
 all_missing_more (l ∷ ls) one all is = (all.0, all_missing_more ls one all.1 is)
 
 -- one missing entry more
-pub one_more_missing : (entries : List PathToCheck) (entry : PathToCheck) → AllMissing (map listed_of entries) → entry.note ≡ Some (Sum Missing) → AllMissing (map listed_of (entries ++ entry ∷ []))
+pub one_more_missing : (entries : List PathToCheck) (entry : PathToCheck) → AllMissing (map listed_of entries) → entry.note ≡ Some Missing → AllMissing (map listed_of (entries ++ entry ∷ []))
 one_more_missing entries entry all is = subst AllMissing (sym (map-append listed_of entries (entry ∷ []))) (all_missing_more (map listed_of entries) (listed_of entry) all is)
 
 -- nothing is missing

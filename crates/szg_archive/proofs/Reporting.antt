@@ -11,7 +11,7 @@ use Rattle.szg_archive.specs.Shards.{shard_of}
 use Rattle.szg_archive.specs.declared.one.CheckedFile.{CheckedFile}
 use Rattle.szg_archive.specs.declared.many.CheckReport.{CheckReport}
 use Rattle.szg_archive.specs.declared.file_verdict.FileVerdict.{FileVerdict}
-use Rattle.szg_archive.specs.declared.file_verdict.FileVerdict.TheVariants.{Whole, Ending, Name, At, Trailing, Unopened, Unread, NoText, Empty, Skipped, Kept, Sum}
+use Rattle.szg_archive.specs.declared.file_verdict.FileVerdict.TheVariants.{Whole, Ending, Name, At, Trailing, Unopened, Unread, NoText, Empty, Skipped, Kept, Differs, Unlisted, Missing}
 use Rattle.szg_archive.specs.declared.entries.PathToCheck.{PathToCheck}
 use Rattle.szg_archive.specs.declared.options.CheckOptions.{CheckOptions}
 use Rattle.szg_archive.specs.declared.due.Due.{Due}
@@ -62,7 +62,9 @@ counts_once allow NoText = refl
 counts_once allow Empty = refl
 counts_once allow (Kept size) = refl
 counts_once allow (Skipped skip) = refl
-counts_once allow (Sum fault) = refl
+counts_once allow Differs = refl
+counts_once allow Unlisted = refl
+counts_once allow Missing = refl
 
 pub sum_more : {X : Type 0} (f : X → ℕ) (xs : List X) (x : X) → sum_by f (xs ++ x ∷ []) ≡ sum_by f xs + f x
 sum_more f xs x = omega (arith, sum_by-append f xs (x ∷ []))

@@ -2,11 +2,9 @@
 use Rattle.std.specs.Prelude.{◌≡◌, ℕ, ◌+◌, ◌/◌, ◌%◌, ◌==◌, ◌||◌, nat_lt, Bool, true, false, if◌then◌else◌, List, [], ◌∷◌, ◌++◌, flat_map, codes, decimal}
 use Rattle.szg_named.specs.Texts.{name_word, reason_word}
 use Rattle.szg_archive.specs.declared.file_verdict.FileVerdict.{FileVerdict}
-use Rattle.szg_archive.specs.declared.file_verdict.FileVerdict.TheVariants.{Whole, Ending, Name, At, Trailing, Unopened, Unread, NoText, Empty, Skipped, Kept, Sum}
+use Rattle.szg_archive.specs.declared.file_verdict.FileVerdict.TheVariants.{Whole, Ending, Name, At, Trailing, Unopened, Unread, NoText, Empty, Skipped, Kept, Differs, Unlisted, Missing}
 use Rattle.szg_archive.specs.declared.file_verdict.Skip.{Skip}
 use Rattle.szg_archive.specs.declared.file_verdict.Skip.TheVariants as skips
-use Rattle.szg_archive.specs.declared.file_verdict.SumFault.{SumFault}
-use Rattle.szg_archive.specs.declared.file_verdict.SumFault.TheVariants as sum_faults
 use Rattle.szg_archive.specs.declared.stop.CheckCounts.{CheckCounts}
 
 -- ---- paths
@@ -58,10 +56,8 @@ skip_reason skips.Loop = codes "it leads to a folder that it is in"
 skip_reason skips.Again = codes "another link led to this folder"
 
 -- what lists of sums say against a file
-abbrev pub sum_word : SumFault → List ℕ
-sum_word sum_faults.Differs = codes "Differs"
-sum_word sum_faults.Unlisted = codes "Unlisted"
-sum_word sum_faults.Missing = codes "Missing"
+abbrev pub sum_text : List ℕ → List ℕ
+sum_text word = codes ": refused sum: " ++ (word ++ 10 ∷ [])
 
 -- a reason of the system
 abbrev pub IsReasonText : List ℕ → Type 0
@@ -81,7 +77,9 @@ IsVerdictText allow_trailing (Unread error) text = IsReasonText text
 IsVerdictText allow_trailing NoText text = text ≡ reason_text no_text
 IsVerdictText allow_trailing Empty text = text ≡ reason_text empty
 IsVerdictText allow_trailing (Skipped skip) text = text ≡ codes ": skipped: " ++ (skip_reason skip ++ 10 ∷ [])
-IsVerdictText allow_trailing (Sum fault) text = text ≡ codes ": refused sum: " ++ (sum_word fault ++ 10 ∷ [])
+IsVerdictText allow_trailing Differs text = text ≡ sum_text (codes "Differs")
+IsVerdictText allow_trailing Unlisted text = text ≡ sum_text (codes "Unlisted")
+IsVerdictText allow_trailing Missing text = text ≡ sum_text (codes "Missing")
 
 -- The line of a path and its verdict.
 abbrev pub IsLine : Bool → List ℕ → FileVerdict → List ℕ → Type 0

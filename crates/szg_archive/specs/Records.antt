@@ -4,9 +4,9 @@ use Rattle.std.specs.List.{concat}
 use Rattle.std.specs.Str.{bytes_eq}
 use Rattle.hex.specs.Hex.{encode_lower}
 use Rattle.szg_named.specs.Texts.{name_word, reason_word}
-use Rattle.szg_archive.specs.Lines.{IsLine, empty, escaped_byte, hex_digit, no_text, path_text, skip_reason, sum_word, summary_text}
+use Rattle.szg_archive.specs.Lines.{IsLine, empty, escaped_byte, hex_digit, no_text, path_text, skip_reason, summary_text}
 use Rattle.szg_archive.specs.declared.file_verdict.FileVerdict.{FileVerdict}
-use Rattle.szg_archive.specs.declared.file_verdict.FileVerdict.TheVariants.{Whole, Ending, Name, At, Trailing, Unopened, Unread, NoText, Empty, Skipped, Kept, Sum}
+use Rattle.szg_archive.specs.declared.file_verdict.FileVerdict.TheVariants.{Whole, Ending, Name, At, Trailing, Unopened, Unread, NoText, Empty, Skipped, Kept, Differs, Unlisted, Missing}
 use Rattle.szg_archive.specs.declared.report_format.ReportFormat.{ReportFormat}
 use Rattle.szg_archive.specs.declared.report_format.ReportFormat.TheVariants.{Text, Tsv, Json}
 use Rattle.szg_archive.specs.declared.stop.CheckCounts.{CheckCounts}
@@ -51,7 +51,9 @@ IsReasonField (Unread error) field = IsSome field
 IsReasonField NoText field = field ≡ Some no_text
 IsReasonField Empty field = field ≡ Some empty
 IsReasonField (Skipped skip) field = field ≡ Some (skip_reason skip)
-IsReasonField (Sum fault) field = field ≡ Some (sum_word fault)
+IsReasonField Differs field = field ≡ Some (codes "Differs")
+IsReasonField Unlisted field = field ≡ Some (codes "Unlisted")
+IsReasonField Missing field = field ≡ Some (codes "Missing")
 
 abbrev pub number_or : List ℕ → Option ℕ → List ℕ
 number_or absent None = absent

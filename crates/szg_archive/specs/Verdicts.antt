@@ -21,11 +21,10 @@ use Rattle.szg_archive.specs.Records.{IsShownLine, manifest_line, report_end}
 use Rattle.szg_archive.specs.Shards.{shard_of}
 use Rattle.szg_named.specs.Named.{name_given, named_as, named_by}
 use Rattle.szg_archive.specs.declared.file_verdict.FileVerdict.{FileVerdict}
-use Rattle.szg_archive.specs.declared.file_verdict.FileVerdict.TheVariants.{Whole, Ending, Name, At, Trailing, Unopened, Unread, NoText, Empty, Skipped, Kept, Sum}
+use Rattle.szg_archive.specs.declared.file_verdict.FileVerdict.TheVariants.{Whole, Ending, Name, At, Trailing, Unopened, Unread, NoText, Empty, Skipped, Kept, Differs, Unlisted, Missing}
 use Rattle.szg_archive.specs.declared.due.Due.{Due}
 use Rattle.szg_archive.specs.declared.due.Due.TheVariants as dues
 use Rattle.szg_archive.specs.declared.entries.PathToCheck.{PathToCheck}
-use Rattle.szg_archive.specs.declared.file_verdict.SumFault.TheVariants.{Differs, Missing, Unlisted}
 use Rattle.szg_sums.specs.Digests.{has_sum}
 use Rattle.szg_sums.specs.Names.{names_of, sum_for}
 use Rattle.szg_sums.specs.declared.lists.Sums.{Sums}
@@ -63,7 +62,7 @@ IsReadOn device checked read of_bytes of_error result =
 
 -- What begins with a table keeps its verdict if all its bytes have the digest that is due; what doesn't keeps it anyway.
 abbrev pub IsComparedTable : {F : Type 0} → Bool → input.Ghosts F → (List ℕ → Bool) → F → F → FileVerdict → FileVerdict → Type 0
-IsComparedTable true device has checked read found verdict = IsReadOn device checked read (λ m. if has m then found else Sum Differs) (λ error. Unread error) verdict
+IsComparedTable true device has checked read found verdict = IsReadOn device checked read (λ m. if has m then found else Differs) (λ error. Unread error) verdict
 IsComparedTable false device has checked read found verdict = verdict ≡ found
 
 -- The verdict on an opened file, of which no byte was read, and its digest, by what has it.
@@ -76,7 +75,7 @@ IsHashedVerdictOn {F = F} device has material kind file read verdict =
 abbrev pub IsDueVerdictOn : {F : Type 0} → input.Ghosts F → Due → Sides → Kind → F → F → FileVerdict → Type 0
 IsDueVerdictOn device dues.Any material kind file read verdict = IsVerdictOn device material kind file read verdict
 IsDueVerdictOn device dues.Unlisted material kind file read verdict =
-    (found : FileVerdict) × IsVerdictOn device material kind file read found × (verdict ≡ (if is_table found then Sum Unlisted else found))
+    (found : FileVerdict) × IsVerdictOn device material kind file read found × (verdict ≡ (if is_table found then Unlisted else found))
 IsDueVerdictOn device (dues.Sum sum) material kind file read verdict = IsHashedVerdictOn device (λ m. has_sum sum m) material kind file read verdict
 
 abbrev pub found_as : FileVerdict → Option (List ℕ) → CheckedFile
@@ -163,7 +162,7 @@ AreListed (path ∷ paths) listed =
 -- They are listed as missing.
 abbrev pub AllMissing : List Listed → Type 0
 AllMissing [] = Unit {0}
-AllMissing (one ∷ more) = (one.1 ≡ Some (Sum Missing)) × AllMissing more
+AllMissing (one ∷ more) = (one.1 ≡ Some Missing) × AllMissing more
 
 -- What is listed after the files: with lists of sums, missing files; without, nothing.
 abbrev pub AreMissing : Option (Bor Sums) → List Listed → Type 0
@@ -246,7 +245,9 @@ refused_of allow_trailing Ending = 1
 refused_of allow_trailing (Name fault) = 1
 refused_of allow_trailing (At offset reason) = 1
 refused_of false (Trailing size) = 1
-refused_of allow_trailing (Sum fault) = 1
+refused_of allow_trailing Differs = 1
+refused_of allow_trailing Unlisted = 1
+refused_of allow_trailing Missing = 1
 refused_of allow_trailing verdict = 0
 
 -- the numbers of good, refused, unread, left-out and skipped verdicts

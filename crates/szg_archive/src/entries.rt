@@ -3,12 +3,14 @@ ghost use Rattle.std.specs.Prelude.{◌≡◌, ◌++◌, IfOk, OnOk, map};
 ghost use Rattle.szg_archive.specs.Shards.{shard_after, shard_of, taken_of};
 ghost use Rattle.szg_archive.specs.Verdicts.{AllMissing, AreListed, AreMissing, IsListedAt, file_at, listed_of};
 
-use crate::file_verdict::{FileVerdict, Skip, SumFault};
+use crate::file_verdict::{FileVerdict, Skip};
 use crate::shard::FileShard;
 use std::alloc::{AllocError, Global};
+use std::fs;
+use std::io::Read;
 use std::path::Path;
 use std::rt::Files;
-use szg_files::{Below, Finding, files_below, first_bytes, is_folder};
+use szg_files::{Below, Finding, files_below, is_folder};
 use szg_named::named_by;
 use szg_sums::{Sums, normal};
 use szg_values::{Kind, Material};
@@ -45,34 +47,31 @@ pub(crate) fn files_at(alloc: Global, paths: &[&str]) -> Result<Vec<PathToCheck>
     Ok(entries)
 }
 
-/// Whether a file's name has the ending of a table's file in it, in any case of letters.
-fn has_ending(name: &str) -> bool {
-    'windows: for window in name.as_bytes().windows(5) {
-        if window.eq_ignore_ascii_case(b".rtbw") || window.eq_ignore_ascii_case(b".rtbz") {
-            return true;
-        }
-    }
-    false
-}
-
-/// Returns the kind of table whose first four bytes a file has. None if it has others, or can't be read.
+/// Returns the kind of table whose first four bytes a regular file has. None if it has others, or can't be read.
 pub fn kind_at<R: Files>(files: &R, path: &str) -> Option<Kind> {
-    match first_bytes(files, path)? {
-        [0x71, 0xe8, 0x23, 0x5d] => Some(Kind::Wdl),
-        [0xd7, 0x66, 0x0c, 0xa5] => Some(Kind::Dtz),
+    if !files.metadata(path).ok()?.is_file() {
+        return None;
+    }
+    let mut bytes = [0; 4];
+    match (fs::open(files, path).ok()?.read(&mut bytes), bytes) {
+        (Ok(4), [0x71, 0xe8, 0x23, 0x5d]) => Some(Kind::Wdl),
+        (Ok(4), [0xd7, 0x66, 0x0c, 0xa5]) => Some(Kind::Dtz),
         _ => None,
     }
 }
 
-/// Whether a file looks like a table: by the ending in its name, by a material that its name begins with, up to its end or
-/// a dot, or by its first four bytes.
+/// Whether a file looks like a table: by the ending in its name, in any case of letters, by a material that its name begins
+/// with, up to its end or a dot, or by its first four bytes.
 fn looks_like_table<R: Files>(files: &R, path: &str) -> bool {
     let name = Path::new(path).file_name().unwrap_or("");
     let stem = match name.split_once('.') {
         Some((stem, _)) => stem,
         None => name,
     };
-    has_ending(name) || Material::parse(stem).is_ok() || kind_at(files, path).is_some()
+    let has_ending = name.as_bytes().windows(5).any(|window| {
+        window.eq_ignore_ascii_case(b".rtbw") || window.eq_ignore_ascii_case(b".rtbz")
+    });
+    has_ending || Material::parse(stem).is_ok() || kind_at(files, path).is_some()
 }
 
 /// Returns what a report has of a path below a folder. None if it isn't a table's file, and doesn't look like one.
@@ -153,38 +152,8 @@ pub fn entries_at<R: Files>(
     Ok(entries)
 }
 
-/// Returns the paths of entries without detours.
-fn normal_paths(alloc: Global, entries: &[PathToCheck]) -> Result<Vec<Vec<u8>>, AllocError> {
-    let mut paths = Vec::new(alloc);
-    'paths: for entry in entries {
-        paths.push(normal(alloc, entry.path.as_bytes())?)?;
-    }
-    Ok(paths)
-}
-
-/// Returns a name as a text. None if it isn't UTF-8, as that of a file that is unread, or isn't that of a table's file.
-fn table_name(name: &[u8]) -> Option<&str> {
-    let name = std::str::from_utf8(name).ok()?;
-    named_by(name)?;
-    Some(name)
-}
-
-/// Returns those of these names that are tables' files, as missing.
-#[tactic(auto, using(crate::proofs::Listing::one_more_missing))]
-fn missing_tables(alloc: Global, names: &[&[u8]]) -> Result<Vec<PathToCheck>, AllocError>
-    ensures { IfOk result (λ found. AllMissing (map listed_of found.items)) }
-{
-    let mut found = Vec::new(alloc);
-    'names: for name in names {
-        if let Some(name) = table_name(name) {
-            let note = Some(FileVerdict::Sum(SumFault::Missing));
-            found.push(PathToCheck::new(alloc, name, note)?)?;
-        }
-    }
-    Ok(found)
-}
-
 /// Returns the tables that lists of sums name, and that none of the entries is.
+#[tactic(auto, using(crate::proofs::Listing::one_more_missing))]
 pub(crate) fn missing(
     alloc: Global,
     sums: Option<&Sums>,
@@ -192,12 +161,24 @@ pub(crate) fn missing(
 ) -> Result<Vec<PathToCheck>, AllocError>
     ensures { IfOk result (λ found. AreMissing sums.entry (map listed_of found.items)) }
 {
+    let mut found = Vec::new(alloc);
     let Some(sums) = sums else {
-        return Ok(Vec::new(alloc));
+        return Ok(found);
     };
-    let paths = normal_paths(alloc, entries)?;
-    let names = sums.unused(alloc, &paths)?;
-    missing_tables(alloc, &names)
+    let mut paths = Vec::new(alloc);
+    'entries: for entry in entries {
+        paths.push(normal(alloc, entry.path.as_bytes())?)?;
+    }
+    'names: for name in sums.unused(alloc, &paths)? {
+        // a file whose name isn't UTF-8 is unread
+        let Ok(name) = std::str::from_utf8(name) else {
+            continue;
+        };
+        if named_by(name).is_some() {
+            found.push(PathToCheck::new(alloc, name, Some(FileVerdict::Missing))?)?;
+        }
+    }
+    Ok(found)
 }
 
 /// Appends an entry, which has so many before it, if it is a shard's.

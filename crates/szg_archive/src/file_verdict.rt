@@ -29,18 +29,11 @@ pub enum FileVerdict {
     Skipped(Skip),
     /// It was good in an earlier run, and has its length and time still. Carries that length in bytes.
     Kept(u64),
-    /// It is a table, and not the listed one.
-    Sum(SumFault),
-}
-
-/// What lists of sums say against a file.
-#[derive(Clone, Copy)]
-pub enum SumFault {
-    /// It has another digest.
+    /// It is a table, and has another digest than the lists of sums have for it.
     Differs,
-    /// No list names it.
+    /// It is a table, and no list of sums names it.
     Unlisted,
-    /// A list names it, and it isn't there.
+    /// A list of sums names it, and it isn't there.
     Missing,
 }
 

@@ -20,7 +20,7 @@ mod stop;
 pub use check_paths::files_to_check;
 pub use due::{Due, due_of};
 pub use entries::{PathToCheck, entries_at, kind_at};
-pub use file_verdict::{FileVerdict, Skip, SumFault};
+pub use file_verdict::{FileVerdict, Skip};
 pub use lines::{escaped_path, summary_line, verdict_line};
 pub use lists::{FromLines, ListFailure, read_lists};
 pub use log::{FileState, Log};

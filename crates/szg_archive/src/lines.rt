@@ -1,9 +1,9 @@
 //! The lines of a report.
 ghost use Rattle.std.specs.Prelude.{◌≡◌, ◌++◌, ◌∷◌, [], ◌+◌, ◌/◌, ◌%◌, ◌^◌, ◌<◌, IfOk, OnOk, string_bytes};
 ghost use Rattle.szg_archive.specs.Records.{escaped_byte_in, escaped_in, json_byte};
-ghost use Rattle.szg_archive.specs.Lines.{IsLine, IsVerdictText, escaped, escaped_byte, hex_digit, path_text, skip_reason, more_text, sum_word, summary_text};
+ghost use Rattle.szg_archive.specs.Lines.{IsLine, IsVerdictText, escaped, escaped_byte, hex_digit, path_text, skip_reason, more_text, summary_text};
 
-use crate::file_verdict::{FileVerdict, Skip, SumFault};
+use crate::file_verdict::{FileVerdict, Skip};
 use crate::report_format::ReportFormat;
 use crate::stop::CheckCounts;
 use std::alloc::{AllocError, Global};
@@ -157,10 +157,9 @@ fn verdict_text(
             let reason = skip_reason(*skip);
             format!(in alloc; ": skipped: {reason}\n")
         }
-        FileVerdict::Sum(fault) => {
-            let word = sum_word(*fault);
-            format!(in alloc; ": refused sum: {word}\n")
-        }
+        FileVerdict::Differs => format!(in alloc; ": refused sum: Differs\n"),
+        FileVerdict::Unlisted => format!(in alloc; ": refused sum: Unlisted\n"),
+        FileVerdict::Missing => format!(in alloc; ": refused sum: Missing\n"),
     }
 }
 
@@ -178,17 +177,6 @@ pub(crate) fn skip_reason(skip: Skip) -> &'static str
         Skip::Ending => "it looks like a table, and ends in neither .rtbw nor .rtbz",
         Skip::Loop => "it leads to a folder that it is in",
         Skip::Again => "another link led to this folder",
-    }
-}
-
-/// Returns the word for what lists of sums say against a file: the name of its variant.
-pub(crate) fn sum_word(fault: SumFault) -> &'static str
-    ensures { result.now ≡ sum_word fault }
-{
-    match fault {
-        SumFault::Differs => "Differs",
-        SumFault::Unlisted => "Unlisted",
-        SumFault::Missing => "Missing",
     }
 }
 

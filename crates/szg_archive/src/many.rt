@@ -51,16 +51,8 @@ fn is_bad(verdict: &FileVerdict, allow_trailing: bool) -> bool
 {
     match verdict {
         FileVerdict::Whole(_) | FileVerdict::Kept(_) | FileVerdict::Skipped(_) => false,
-        FileVerdict::Trailing(_) if allow_trailing => false,
-        FileVerdict::Ending
-        | FileVerdict::Name(_)
-        | FileVerdict::At(..)
-        | FileVerdict::Trailing(_)
-        | FileVerdict::Unopened(_)
-        | FileVerdict::Unread(_)
-        | FileVerdict::NoText
-        | FileVerdict::Empty
-        | FileVerdict::Sum(_) => true,
+        FileVerdict::Trailing(_) => !allow_trailing,
+        _ => true,
     }
 }
 
@@ -143,15 +135,6 @@ fn kept_length<R: Files>(
     }
 }
 
-/// When the file of an entry changed, where a record has that. It is asked before the file is read: what changes while it is
-/// read has another time then.
-fn modified_at<R: Files>(files: &R, format: ReportFormat, entry: &PathToCheck) -> Option<u64> {
-    if entry.note.is_some() || matches!(format, ReportFormat::Text) {
-        return None;
-    }
-    Some(state_at(files, entry.path.as_str())?.modified)
-}
-
 /// Finds what is known of an entry, or else what the check of its file and of its digest finds; and times that where a record
 /// has the seconds.
 #[tactic(auto, using(crate::proofs::Reporting::due_is))]
@@ -167,7 +150,13 @@ fn report_entry<S: FileSystem, D: Files + Clock>(
     ensures listed { IfOk result (λ reported. reported.listed.items ≡ manifest_line options.entry.allow_trailing (string_bytes entry.now.path) reported.found.verdict reported.found.digest) }
 {
     let path = entry.path.as_str();
-    let modified = modified_at(machine, options.format, entry);
+    // before the file is read: what changes while it is read has another time then
+    let modified = match (options.format, entry.note) {
+        (ReportFormat::Tsv | ReportFormat::Json, None) => {
+            state_at(machine, path).map(|state| state.modified)
+        }
+        _ => None,
+    };
     let started = match options.format {
         ReportFormat::Text => None,
         ReportFormat::Tsv | ReportFormat::Json => Instant::now(machine).ok(),

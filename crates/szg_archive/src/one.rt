@@ -3,11 +3,10 @@ ghost use Rattle.std.specs.Prelude.{◌≡◌, ◌⊎◌, ◌^◌, ◌≤◌, �
 ghost use Rattle.std.specs.Io.KnownBytes.{IsAtEnd};
 ghost use Rattle.szg_io.specs.Device.{HasFailed};
 ghost use Rattle.std.specs.Str.{bytes_eq};
-ghost use Rattle.szg_sums.specs.Digests.{has_sum};
 ghost use Rattle.szg_archive.specs.Verdicts.{IsDigestedOn, IsDueVerdictOn, IsFileVerdict, IsFoundOn, IsHashedVerdictOn, IsVerdictOn, is_table};
 
 use crate::due::Due;
-use crate::file_verdict::{FileVerdict, SumFault};
+use crate::file_verdict::FileVerdict;
 use crate::hashed::Hashed;
 use std::alloc::{AllocError, Global};
 use szg_file::{NoSink, ReadFault, scan};
@@ -96,13 +95,9 @@ impl CheckedFile {
 
 /// The verdict on a file whose digest was compared.
 fn judged(found: FileVerdict, is_met: bool) -> FileVerdict
-    ensures { result ≡ (if is_met then found else FileVerdict.Sum SumFault.Differs) }
+    ensures { result ≡ (if is_met then found else FileVerdict.Differs) }
 {
-    if is_met {
-        found
-    } else {
-        FileVerdict::Sum(SumFault::Differs)
-    }
+    if is_met { found } else { FileVerdict::Differs }
 }
 
 /// Checks an opened file, and compares `due` with the digest of the same bytes, and of those that follow a table.
@@ -137,25 +132,6 @@ fn check_hashed<F: Input + Reasons + Drop, H: Hasher>(
     Ok(Checked { input, verdict })
 }
 
-/// Checks an opened file, and compares its digest.
-fn check_summed<F: Input + Reasons + Drop>(
-    alloc: Global,
-    material: &Material,
-    kind: Kind,
-    file: F,
-    sum: Sum,
-) -> Result<Checked<F>, AllocError>
-    requires { F.moved file ≡ [] }
-    ensures { IfOk result (λ checked. IsHashedVerdictOn F.Input (λ m. has_sum sum m) material.now kind file checked.input checked.verdict) }
-{
-    match sum {
-        Sum::Md5(due) => check_hashed::<F, Md5>(alloc, material, kind, file, &due),
-        Sum::Sha1(due) => check_hashed::<F, Sha1>(alloc, material, kind, file, &due),
-        Sum::Sha256(due) => check_hashed::<F, Sha256>(alloc, material, kind, file, &due),
-        Sum::Sha512(due) => check_hashed::<F, Sha512>(alloc, material, kind, file, &due),
-    }
-}
-
 /// Checks an opened file, and what its digest has to be.
 fn check_due<F: Input + Reasons + Drop>(
     alloc: Global,
@@ -178,7 +154,7 @@ fn check_due<F: Input + Reasons + Drop>(
         Due::Unlisted => {
             let found = check_opened(alloc, material, kind, &mut file)?;
             let verdict = if is_table(&found) {
-                FileVerdict::Sum(SumFault::Unlisted)
+                FileVerdict::Unlisted
             } else {
                 found
             };
@@ -187,7 +163,10 @@ fn check_due<F: Input + Reasons + Drop>(
                 verdict,
             })
         }
-        Due::Sum(sum) => check_summed(alloc, material, kind, file, sum),
+        Due::Sum(Sum::Md5(due)) => check_hashed::<F, Md5>(alloc, material, kind, file, &due),
+        Due::Sum(Sum::Sha1(due)) => check_hashed::<F, Sha1>(alloc, material, kind, file, &due),
+        Due::Sum(Sum::Sha256(due)) => check_hashed::<F, Sha256>(alloc, material, kind, file, &due),
+        Due::Sum(Sum::Sha512(due)) => check_hashed::<F, Sha512>(alloc, material, kind, file, &due),
     }
 }
 

@@ -4,7 +4,7 @@ ghost use Rattle.std.specs.Duration.{as_nanos};
 ghost use Rattle.szg_archive.specs.Records.{IsReasonField, IsReportLine, bytes_field, json_others, json_reason, json_summary, json_text, json_times, listed_byte, listed_name, number_or, offset_field, quoted, seconds_or, sum_line, sum_mark, tsv_reason, tsv_text, verdict_word};
 
 use crate::file_verdict::FileVerdict;
-use crate::lines::{EMPTY, NO_TEXT, escaped_in, path_text, skip_reason, sum_word, verdict_line};
+use crate::lines::{EMPTY, NO_TEXT, escaped_in, path_text, skip_reason, verdict_line};
 use crate::report_format::ReportFormat;
 use crate::stop::CheckCounts;
 use std::alloc::{AllocError, Global};
@@ -24,11 +24,7 @@ fn verdict_word(verdict: &FileVerdict, allow_trailing: bool) -> &'static str
         | FileVerdict::Empty => "unread",
         FileVerdict::Kept(_) => "kept",
         FileVerdict::Skipped(_) => "skipped",
-        FileVerdict::Ending
-        | FileVerdict::Name(_)
-        | FileVerdict::At(..)
-        | FileVerdict::Trailing(_)
-        | FileVerdict::Sum(_) => "refused",
+        _ => "refused",
     }
 }
 
@@ -70,7 +66,9 @@ fn reason_field(alloc: Global, verdict: &FileVerdict) -> Result<Option<String>, 
         FileVerdict::NoText => NO_TEXT,
         FileVerdict::Empty => EMPTY,
         FileVerdict::Skipped(skip) => skip_reason(*skip),
-        FileVerdict::Sum(fault) => sum_word(*fault),
+        FileVerdict::Differs => "Differs",
+        FileVerdict::Unlisted => "Unlisted",
+        FileVerdict::Missing => "Missing",
     };
     Ok(Some(String::from_str(alloc, word)?))
 }

@@ -56,11 +56,7 @@ impl CheckCounts {
             | FileVerdict::Empty => tally.unread += 1,
             FileVerdict::Kept(_) => tally.kept += 1,
             FileVerdict::Skipped(_) => tally.skipped += 1,
-            FileVerdict::Ending
-            | FileVerdict::Name(_)
-            | FileVerdict::At(..)
-            | FileVerdict::Trailing(_)
-            | FileVerdict::Sum(_) => tally.refused += 1,
+            _ => tally.refused += 1,
         }
         tally
     }

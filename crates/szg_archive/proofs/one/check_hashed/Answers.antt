@@ -1,8 +1,7 @@
 use Rattle.std.proofs.Common.{◌≡◌, Bool, true, refl, rules, inl, inr, sym, ap, ◌∙◌, if◌then◌else◌}
 use Rattle.std.specs.Str.{bytes_eq}
 use Rattle.szg_archive.specs.Verdicts.{is_table}
-use Rattle.szg_archive.specs.declared.file_verdict.FileVerdict.TheVariants.{Sum}
-use Rattle.szg_archive.specs.declared.file_verdict.SumFault.TheVariants.{Differs}
+use Rattle.szg_archive.specs.declared.file_verdict.FileVerdict.TheVariants.{Differs}
 use Rattle.szg_archive.proofs.Hashing.{compared, on_err, on_ok}
 use Rattle.szg_archive.proofs.one.check_hashed.Goals as goal
 
@@ -19,4 +18,4 @@ returns g c =
     let end = on_ok c.read_on.result (sym c.is_err.ensures.value ∙ c.if-is_err.false) c.read_on.ensures.end in
     compared g.F.Input (λ m. bytes_eq (g.H.Hasher.sum_of m) c.args.due.now) c.args.material.now c.args.kind c.args.file _ c.new-hashed.result c.check_opened.new.file c.read_on.new.input c.in_ok-found.found _ c.new-hashed.ensures (search rules)
     c.in_ok-found.ensures table
-    (inl (end, (c.read_on.ensures.rest.0, c.read_on.ensures.rest.1), c.judged-verdict.ensures ∙ ap (λ (b : Bool). if b then c.in_ok-found.found else Sum Differs) c.compared-input.ensures.met))
+    (inl (end, (c.read_on.ensures.rest.0, c.read_on.ensures.rest.1), c.judged-verdict.ensures ∙ ap (λ (b : Bool). if b then c.in_ok-found.found else Differs) c.compared-input.ensures.met))
