@@ -199,31 +199,20 @@ fn add_in(
     Ok(chosen.push(entry)?)
 }
 
-/// Returns those entries that are a shard's.
-fn entries_in(
-    alloc: Global,
-    shard: &FileShard,
-    entries: &[PathToCheck],
-) -> Result<Vec<PathToCheck>, AllocError>
-    ensures { IfOk result (λ chosen. map listed_of chosen.items ≡ shard_after shard.now 0 (map listed_of entries.now)) }
-{
-    let mut chosen = Vec::new(alloc);
-    'entries: for (number, entry) in entries.iter().enumerate() {
-        add_in(alloc, shard, number as u64, entry, &mut chosen)?;
-    }
-    Ok(chosen)
-}
-
 /// Returns the entries of a shard, or all if none is given.
 pub(crate) fn in_shard(
     alloc: Global,
-    shard: Option<FileShard>,
+    given: Option<FileShard>,
     entries: Vec<PathToCheck>,
 ) -> Result<Vec<PathToCheck>, AllocError>
-    ensures { IfOk result (λ chosen. map listed_of chosen.items ≡ shard_of shard (map listed_of entries.items)) }
+    ensures { IfOk result (λ chosen. map listed_of chosen.items ≡ shard_of given (map listed_of entries.items)) }
 {
-    match shard {
-        Some(shard) => entries_in(alloc, &shard, &entries),
-        None => Ok(entries),
+    let Some(shard) = given else {
+        return Ok(entries);
+    };
+    let mut chosen = Vec::new(alloc);
+    'entries: for (number, entry) in entries.iter().enumerate() {
+        add_in(alloc, &shard, number as u64, entry, &mut chosen)?;
     }
+    Ok(chosen)
 }

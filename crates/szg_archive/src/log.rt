@@ -1,6 +1,6 @@
 //! Logs: the records of earlier runs.
-ghost use Rattle.std.specs.Prelude.{◌≡◌, None, map};
-ghost use Rattle.szg_archive.specs.Logs.{entry_of, last, past_of};
+ghost use Rattle.std.specs.Prelude.{◌≡◌};
+ghost use Rattle.szg_archive.specs.Logs.{entry_of, past_of};
 
 use crate::lists::FromLines;
 use std::alloc::{AllocError, Global};
@@ -45,8 +45,12 @@ impl Log {
     pub fn last_state(&self, alloc: Global, path: &str) -> Result<Option<FileState>, AllocError>
         ensures { IfOk result (λ state. state ≡ last_state (entries_of self.now) path.now) }
     {
-        let path = normal(alloc, path.as_bytes())?;
-        Ok(last_of(&self.entries, &path))
+        let normal = normal(alloc, path.as_bytes())?;
+        let mut known = None;
+        'entries: for entry in &self.entries {
+            known = past(&normal, known, entry);
+        }
+        Ok(known)
     }
 }
 
@@ -85,17 +89,6 @@ fn past(path: &[u8], known: Option<FileState>, entry: &LogEntry) -> Option<FileS
     } else {
         known
     }
-}
-
-/// Returns what the last record of a normal path says.
-fn last_of(entries: &[LogEntry], path: &[u8]) -> Option<FileState>
-    ensures { result ≡ last path.now None (map entry_of entries.now) }
-{
-    let mut known = None;
-    'entries: for entry in entries {
-        known = past(path, known, entry);
-    }
-    known
 }
 
 /// Returns the record in a line. None if it has none.

@@ -93,13 +93,6 @@ impl CheckedFile {
     }
 }
 
-/// The verdict on a file whose digest was compared.
-fn judged(found: FileVerdict, is_met: bool) -> FileVerdict
-    ensures { result ≡ (if is_met then found else FileVerdict.Differs) }
-{
-    if is_met { found } else { FileVerdict::Differs }
-}
-
 /// Checks an opened file, and compares `due` with the digest of the same bytes, and of those that follow a table.
 #[tactic(auto, using(crate::proofs::Hashing::no_table))]
 fn check_hashed<F: Input + Reasons + Drop, H: Hasher>(
@@ -128,8 +121,16 @@ fn check_hashed<F: Input + Reasons + Drop, H: Hasher>(
         });
     }
     let (input, is_met) = hashed.compared(due);
-    let verdict = judged(found, is_met);
-    Ok(Checked { input, verdict })
+    if !is_met {
+        return Ok(Checked {
+            input,
+            verdict: FileVerdict::Differs,
+        });
+    }
+    Ok(Checked {
+        input,
+        verdict: found,
+    })
 }
 
 /// Checks an opened file, and what its digest has to be.
