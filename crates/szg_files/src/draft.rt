@@ -34,10 +34,7 @@ pub trait Lock {
 
 impl Lock for File {
     fn try_lock(&self) -> io::Result<()> {
-        match File::try_lock(self) {
-            Ok(()) => Ok(()),
-            Err(error) => Err(error.into()),
-        }
+        Ok(File::try_lock(self)?)
     }
 }
 

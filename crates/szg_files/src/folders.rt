@@ -2,7 +2,7 @@
 
 use crate::file_system::FileFault;
 use std::alloc::{AllocError, Global};
-use std::fs::{self, Metadata};
+use std::fs::Metadata;
 use std::io::Read;
 use std::os::unix::fs::MetadataExt;
 use std::rt::Files;
@@ -73,19 +73,6 @@ pub fn is_folder<R: Files>(files: &R, path: &str) -> Result<bool, FileFault> {
     Ok(files.metadata(path)?.is_dir())
 }
 
-/// Returns the first four bytes of a regular file. None if it has fewer, or can't be read.
-pub fn first_bytes<R: Files>(files: &R, path: &str) -> Option<[u8; 4]> {
-    let metadata = files.metadata(path).ok()?;
-    if !metadata.is_file() {
-        return None;
-    }
-    let mut bytes = [0; 4];
-    match fs::open(files, path).ok()?.read(&mut bytes) {
-        Ok(4) => Some(bytes),
-        _ => None,
-    }
-}
-
 /// Returns all that is below a folder and is no folder, and the folders that weren't read, in the byte order of their paths.
 /// A link to a folder is followed once, and not if it leads to a folder that it is in.
 pub fn files_below<R: Files>(
@@ -145,23 +132,15 @@ impl<'a, R: Files> FolderWalk<'a, R> {
             Err(fault) => return self.add(path, Finding::Unread(fault)),
         };
         'names: for name in &names {
-            self.add_name(number, path.as_str(), name)?;
+            if let Ok(name) = std::str::from_utf8(name) {
+                let path = format!(in self.alloc; "{path}/{name}")?;
+                self.look_at(number, path)?;
+            } else {
+                let path = printable(self.alloc, path.as_bytes(), name)?;
+                self.add(path, Finding::NoText)?;
+            }
         }
         Ok(())
-    }
-
-    /// Looks at a name in a folder.
-    fn add_name(&mut self, parent: usize, folder: &str, name: &[u8]) -> Result<(), AllocError> {
-        match std::str::from_utf8(name) {
-            Ok(name) => {
-                let path = format!(in self.alloc; "{folder}/{name}")?;
-                self.look_at(parent, path)
-            }
-            Err(_) => {
-                let path = printable(self.alloc, folder.as_bytes(), name)?;
-                self.add(path, Finding::NoText)
-            }
-        }
     }
 
     /// Looks at a path in a folder.
@@ -171,34 +150,36 @@ impl<'a, R: Files> FolderWalk<'a, R> {
             Err(error) => return self.add(path, Finding::Unread(FileFault::System(error))),
         };
         if itself.is_dir() {
-            return self.enter(parent, path, FolderId::of(&itself));
+            return self.enter(parent, path, FolderId::of(&itself), false);
         }
         if !itself.is_symlink() {
             return self.add(path, Finding::File);
         }
         match self.files.metadata(path.as_str()) {
-            Ok(target) if target.is_dir() => self.follow(parent, path, FolderId::of(&target)),
+            Ok(target) if target.is_dir() => {
+                self.enter(parent, path, FolderId::of(&target), true)
+            }
             Ok(_) => self.add(path, Finding::File),
             Err(error) => self.add(path, Finding::Unread(FileFault::System(error))),
         }
     }
 
-    /// Follows a link to a folder that no other link led to.
-    fn follow(&mut self, parent: usize, path: String, node: FolderId) -> Result<(), AllocError> {
+    /// Takes a folder that is to be read, unless it is within itself, or it is a link to a folder that another link led to.
+    fn enter(
+        &mut self,
+        parent: usize,
+        path: String,
+        node: FolderId,
+        is_link: bool,
+    ) -> Result<(), AllocError> {
         if self.is_within(parent, node) {
             return self.add(path, Finding::Loop);
         }
-        if self.followed.contains(&node) {
-            return self.add(path, Finding::Again);
-        }
-        self.followed.push(node)?;
-        self.enter(parent, path, node)
-    }
-
-    /// Takes a folder that is to be read, unless it is within itself.
-    fn enter(&mut self, parent: usize, path: String, node: FolderId) -> Result<(), AllocError> {
-        if self.is_within(parent, node) {
-            return self.add(path, Finding::Loop);
+        if is_link {
+            if self.followed.contains(&node) {
+                return self.add(path, Finding::Again);
+            }
+            self.followed.push(node)?;
         }
         Ok(
             self.folders.push(Folder {
