@@ -38,15 +38,8 @@ fn kind_by(path: &str) -> Option<Kind>
 pub fn named_as<'a>(naming: Naming<'a>, path: &'a str) -> Option<(&'a str, Kind)>
     ensures { option_map (λ named. (named.0.now, named.1)) result ≡ named_as (name_given naming.entry) naming.entry.kind path.now }
 {
-    let name = match naming.name {
-        Some(name) => Some(name),
-        None => Path::new(path).file_stem(),
-    };
-    let kind = match naming.kind {
-        Some(kind) => Some(kind),
-        None => kind_by(path),
-    };
-    match (name, kind) {
+    let name = naming.name.or(Path::new(path).file_stem());
+    match (name, naming.kind.or(kind_by(path))) {
         (Some(name), Some(kind)) => Some((name, kind)),
         _ => None,
     }
