@@ -1,16 +1,7 @@
-pub mod CodeChoice
-pub mod BlockLaws
-pub mod Filling
-pub mod BlockSteps
-pub mod SparseLaws
-pub mod MadeLaws
-pub mod RuleLaws
 pub mod SubLaws
-pub mod Entries
 pub mod BuiltLaws
 pub mod PlaceLaws
 pub mod RefusalLaws
 pub mod TableLaws
-pub mod WordBits
 pub mod PackedLaws
 pub mod PassLaws

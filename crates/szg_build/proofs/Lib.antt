@@ -1,4 +1,3 @@
-pub mod Pairs
 pub mod Builders
 pub mod Texts
 pub mod Readers

@@ -10,8 +10,8 @@ use Rattle.hex.specs.Hex.{encode_with}
 use Rattle.std.specs.Fmt.{digits}
 use Rattle.szg_build.specs.declared.dump.DumpFault.TheVariants as line
 use Rattle.szg_build.specs.declared.BuildFault.TheVariants as plan
-use Rattle.szg_build.specs.Plan.{Plan, values_below, fault_for}
-use Rattle.szg_build.specs.Pairing.{pair_count, replaced}
+use Rattle.szg_subtable.specs.Pairing.{values_below}
+use Rattle.szg_build.specs.Plan.{Plan, fault_for}
 use Rattle.szg_build.specs.Dump.{Dump}
 use Rattle.szg_build.specs.Text.{single, runs, dump_lines, dump_text}
 use Rattle.szg_build.specs.Lines.{Verdict, good, refused, ended, verdict, of_line, of_plan}
@@ -295,17 +295,6 @@ narrow_with_flag_16 = refl
 list_of_256_bytes : fault_for (Some (3 ∷ [])) (record kqvk_plan { flags = 2 ∷ []; maps = Some (narrow ([] ∷ replicate 256 1 ∷ [] ∷ [] ∷ [])) ∷ [] }) ((3 ∷ 3 ∷ 3 ∷ []) ∷ []) ≡ Some plan.Map
 unfolding fault_for values_below
 list_of_256_bytes = refl
-
--- ---- pairs
-
-twice_in_five : pair_count 1 1 (1 ∷ 1 ∷ 1 ∷ 1 ∷ 1 ∷ []) ≡ 2
-twice_in_five = refl
-
-once_after_another : pair_count 1 2 (1 ∷ 1 ∷ 2 ∷ 2 ∷ []) ≡ 1
-once_after_another = refl
-
-replaced_in_five : replaced 1 1 9 (1 ∷ 1 ∷ 1 ∷ 1 ∷ 1 ∷ []) ≡ 9 ∷ 9 ∷ 1 ∷ []
-replaced_in_five = refl
 
 -- ---- the dump of the constant KNvK table: two subtables of 31,332 draws
 

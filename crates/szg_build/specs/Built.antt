@@ -7,7 +7,7 @@ use Rattle.szg_file.specs.Contents.{Contents, Slot, slots, Subtable, constant, p
 use Rattle.szg_file.specs.File.{flags_of}
 use Rattle.szg_file.specs.Values.{slotted, values_of}
 use Rattle.szg_build.specs.Plan.{Plan}
-use Rattle.szg_build.specs.Pairing.{IsPaired}
+use Rattle.szg_subtable.specs.Pairing.{IsPaired}
 use Rattle.szg_build.specs.Dump.{Dump}
 
 -- the layout of a subtable that is not constant

@@ -2,9 +2,9 @@
 use Rattle.std.specs.Prelude.{ℕ, List}
 use Rattle.std.specs.List.{AllByRecursion}
 use Rattle.szg_file.specs.Contents.{Contents}
-use Rattle.szg_build.specs.declared.building.Packing.{Packing}
-use Rattle.szg_build.specs.declared.building.Choice.{Choice}
-use Rattle.szg_build.specs.declared.building.Choice.TheVariants.{Fixed, Small}
+use Rattle.szg_subtable.specs.declared.building.Packing.{Packing}
+use Rattle.szg_subtable.specs.declared.building.Choice.{Choice}
+use Rattle.szg_subtable.specs.declared.building.Choice.TheVariants.{Fixed, Small}
 use Rattle.szg_build.specs.Built.{dump_plan, IsBuilt, IsBuiltSmall}
 use Rattle.szg_build.specs.Dump.{Dump}
 use Rattle.szg_build.specs.Plan.{Plan}

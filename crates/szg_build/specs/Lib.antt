@@ -1,7 +1,7 @@
-pub mod Pairing
+pub use Rattle.szg_subtable.specs.Pairing
+pub use Rattle.szg_subtable.specs.SubtableRule
+pub use Rattle.szg_subtable.specs.PackedSubtable
 pub mod Rule
-pub mod Counting
-pub mod Building
 pub mod Plan
 pub mod Dump
 pub mod Built

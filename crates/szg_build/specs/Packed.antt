@@ -5,15 +5,14 @@ use Rattle.szg_values.specs.declared.Kind.{Kind}
 use Rattle.szg_values.specs.declared.Kind.TheVariants.{Wdl, Dtz}
 use Rattle.szg_file.specs.Held.{map_of, part_of, subtable_of}
 use Rattle.szg_file.specs.Values.{values_in}
-use Rattle.szg_build.specs.declared.building.Choice.{Choice}
+use Rattle.szg_subtable.specs.declared.building.Choice.{Choice}
 use Rattle.szg_build.specs.declared.reading.packing.PackedSub.{PackedSub}
 use Rattle.szg_build.specs.declared.reading.gathering.Subs.{Subs}
 use Rattle.szg_build.specs.declared.reading.gathering.Gathered.{Gathered}
 use Rattle.szg_build.specs.declared.reading.values.Values.{Values}
 use Rattle.szg_build.specs.declared.reading.values.Values.TheVariants.{Run, Listed}
-use Rattle.szg_build.specs.Building.{IsBuiltSub}
 use Rattle.szg_build.specs.Dump.{Dump}
-use Rattle.szg_build.specs.Tabling.{IsBuildable}
+use Rattle.szg_build.specs.Tabling.{IsBuildable, IsBuiltSub}
 
 -- ---- values
 

@@ -1,11 +1,12 @@
 -- What a table is built from, and the first fault in it.
-use Rattle.std.specs.Prelude.{ℕ, ◌^◌, ◌==◌, ◌&&◌, not, nat_lt, nat_le, Bool, true, false, List, [], ◌∷◌, length, map, filter, Option, Some, None, is_none, option_map, position, if◌then◌else◌}
-use Rattle.std.specs.List.{list_any, list_all, range_with_len, zip}
+use Rattle.std.specs.Prelude.{ℕ, ◌^◌, ◌==◌, ◌&&◌, not, nat_lt, nat_le, Bool, true, false, List, [], ◌∷◌, length, map, Option, Some, None, is_none, option_map, position, if◌then◌else◌}
+use Rattle.std.specs.List.{list_any, list_all, zip}
 use Rattle.szg_values.specs.Material.{Sides, man_codes}
 use Rattle.szg_values.specs.declared.Kind.{Kind}
 use Rattle.szg_values.specs.declared.Kind.TheVariants.{Wdl, Dtz}
 use Rattle.szg_count.specs.Groups.{order_fault}
 use Rattle.szg_file.specs.Contents.{Part, Map, narrow, wide, has_bit, part_numbers, side_numbers, order_bytes, order_of, slots}
+use Rattle.szg_subtable.specs.Pairing.{different_values}
 use Rattle.szg_build.specs.declared.BuildFault.{BuildFault}
 use Rattle.szg_build.specs.declared.BuildFault.TheVariants as fault
 
@@ -46,14 +47,6 @@ sizes_if_valid material kind parts =
 abbrev pub greatest_value : Kind → ℕ
 greatest_value Wdl = 4
 greatest_value Dtz = 4095
-
--- the different values of a list that are below a bound, ascending
-unfoldable pub values_below : ℕ → List ℕ → List ℕ
-values_below bound list = filter (λ value. list_any (λ v. v == value) list) (range_with_len 0 bound)
-
--- the different values of a list, ascending
-abbrev pub different_values : List ℕ → List ℕ
-different_values list = values_below 4096 list
 
 -- the first list whose length is not its subtable's size
 abbrev pub wrong_length : List ℕ → List (List ℕ) → Option ℕ

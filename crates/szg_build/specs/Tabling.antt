@@ -2,16 +2,33 @@
 use Rattle.std.specs.Prelude.{◌≡◌, ℕ, ◌^◌, ◌<◌, ◌≤◌, List, [], ◌∷◌, length, map, true, Option, Some, None, IfSome}
 use Rattle.std.specs.List.{AllByRecursion}
 use Rattle.szg_values.specs.declared.Kind.{Kind}
-use Rattle.szg_file.specs.Accepted.{SideBySide, AreNumbers, AreBytes, IsPart, IsAccepted}
-use Rattle.szg_file.specs.Contents.{Part, Subtable, Map, narrow, wide, Contents, slots, part_numbers}
+use Rattle.szg_file.specs.Accepted.{SideBySide, AreNumbers, AreBytes, IsPart, IsSubtable, IsAccepted}
+use Rattle.szg_file.specs.Contents.{Part, Slot, Subtable, Map, narrow, wide, Contents, slots, part_numbers}
 use Rattle.szg_file.specs.File.{flags_of}
 use Rattle.szg_file.specs.FileOf.{fill_asked}
-use Rattle.szg_build.specs.declared.building.Choice.{Choice}
-use Rattle.szg_build.specs.declared.building.Choice.TheVariants.{Fixed, Small}
-use Rattle.szg_build.specs.Plan.{Plan, different_values, greatest_value, has_maps}
-use Rattle.szg_build.specs.Building.{IsBuiltSub, IsByRule, IsPackedBy}
-use Rattle.szg_build.specs.Rule.{byte4_for, HasSpanIndex}
-use Rattle.szg_build.specs.Built.{layout_in, packed_in, subtables_in, value_lists, plan_flags, flags_bytes}
+use Rattle.szg_file.specs.Values.{values_in}
+use Rattle.szg_subtable.specs.declared.building.Choice.{Choice}
+use Rattle.szg_subtable.specs.declared.building.Choice.TheVariants.{Fixed, Small}
+use Rattle.szg_subtable.specs.Pairing.{different_values}
+use Rattle.szg_subtable.specs.PackedSubtable.{IsPackedBy, IsCodedAs}
+use Rattle.szg_build.specs.Plan.{Plan, greatest_value, has_maps}
+use Rattle.szg_build.specs.Rule.{byte4_for, constant_for, constant_in, HasSpanIndex}
+use Rattle.szg_build.specs.Built.{layout_in, packed_in, subtables_in, value_lists, plan_flags, flags_byte, flags_bytes}
+
+-- a subtable that follows the builder's rule
+pub record IsByRule (kind : Kind) (values : List ℕ) (choice : Choice) (subtable : Subtable) : Type 0 where
+  pub constants : constant_in subtable ≡ constant_for kind values
+  pub codes : IfSome (layout_in subtable) (IsCodedAs choice)
+  pub index : HasSpanIndex (length values) subtable
+
+-- A subtable built from a list of values: it passes the checks of a file, it expands to the values, its flags byte
+-- has these flags, it is packed as chosen if it is not constant, and it follows the builder's rule.
+pub record IsBuiltSub (kind : Kind) (flags : ℕ) (values : List ℕ) (choice : Choice) (subtable : Subtable) : Type 0 where
+  pub is_valid : (slot : Slot) → slot.size ≡ length values → IsSubtable slot subtable
+  pub expands : values_in kind (length values) subtable ≡ values
+  pub flags_kept : flags_of subtable ≡ flags_byte flags subtable
+  pub packed : IfSome (layout_in subtable) (λ layout. IsPackedBy choice layout (packed_in subtable) (length values))
+  pub rule : IsByRule kind values choice subtable
 
 -- a list of values from which a subtable can be built
 pub record IsBuildable (kind : Kind) (values : List ℕ) : Type 0 where

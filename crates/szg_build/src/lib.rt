@@ -2,33 +2,31 @@
 //! Writes and reads dumps: a dump is the text of a table, which a person can read and compare.
 #![tactic(auto)]
 
-mod building;
 mod copies;
 mod dump;
+mod headers;
 mod item;
 pub mod laws;
-mod pairing;
 mod places;
 mod reading;
 mod refusing;
-mod shrinking;
+mod subtables;
 mod table;
-mod watching;
+mod typed;
 mod writing;
 
 ghost use Rattle.std.specs.Prelude.{◌≡◌};
 ghost use Rattle.szg_build.specs.declared.BuildFault.TheVariants.{Memory};
 
-pub use building::{Choice, Packing};
 pub use dump::{Dump, DumpFault, DumpReadFault};
 pub use reading::dumpreading::{read_dump, read_packed};
 pub use reading::packed_dump::PackedDump;
 use std::alloc::AllocError;
 use szg_file::{Map, PartBytes};
+pub use szg_subtable::{Choice, Packing, Unwatched, Watcher};
 use szg_values::{Kind, Material};
 pub use table::{build, build_as};
 use thiserror::Error;
-pub use watching::{Unwatched, Watcher};
 pub use writing::block_values::BlockValues;
 pub use writing::dumping::{StreamFault, stream_dump};
 pub use writing::stored::{StoredValues, stored_values};

@@ -6,9 +6,9 @@ ghost use Rattle.szg_file.specs.Held.{map_of};
 ghost use Rattle.szg_build.specs.Plan.{fault_for, greatest_value, has_maps, is_map_of};
 ghost use Rattle.szg_build.specs.Shown.{plan_seen};
 
-use crate::pairing::leaves::count_different;
 use crate::{BuildFault, Plan};
 use szg_file::{Map, has_bit, part_count};
+use szg_subtable::count_different;
 use szg_values::Kind;
 
 /// The greatest number of rounds of a plan.

@@ -11,19 +11,18 @@ ghost use Rattle.szg_build.specs.Plan.{build_fault};
 ghost use Rattle.szg_build.specs.Rule.{byte4_for, constant_for, constant_in, HasSpanIndex, HasTruncatedBinary};
 ghost use Rattle.szg_build.specs.Shown.{plan_seen};
 ghost use Rattle.szg_build.specs.Tabling.{AreMade, IsBuiltBy, IsChoiceOf, IsOfBytes, IsOfItems, HasNoFault};
-ghost use Rattle.szg_build.specs.declared.building.Choice.{Choice};
+ghost use Rattle.szg_subtable.specs.declared.building.Choice.{Choice};
 
-use crate::building::headers::count_other_bytes;
-use crate::building::subtables::{build_sub, constant_byte};
-use crate::building::{Choice, Packing};
 use crate::copies::{copy_maps, copy_parts};
+use crate::headers::count_other_bytes;
 use crate::refusing::first_fault;
-use crate::watching::{Unwatched, Watcher};
+use crate::subtables::{build_sub, constant_byte};
 use crate::{BuildFault, Plan};
 use std::alloc::{AllocError, Global};
 use szg_block::Sub;
 use szg_file::typed::{bytes_fit, end_bytes, words_fit};
 use szg_file::{Fields, Map, PartBytes, Table, subtable_sizes};
+use szg_subtable::{Choice, Packing, Unwatched, Watcher};
 use szg_values::{Kind, Material};
 
 // ---- for proofs alone: what types ensure
@@ -134,8 +133,8 @@ pub(crate) fn table_from(alloc: Global, plan: &Plan, subs: Vec<Sub>) -> Result<T
 /// Builds the table of a plan and lists, packed by `choice`. Errors: the first fault of the plan and lists.
 pub(crate) fn build_by<V: Watcher>(
     alloc: Global,
-    plan: &Plan,
     choice: Choice,
+    plan: &Plan,
     lists: &[&[u16]],
     watcher: &mut V,
 ) -> Result<Table, BuildFault>
@@ -211,7 +210,7 @@ pub fn build_as<V: Watcher>(
     ensures index { IfOk result (λ t. AllByRecursion (λ pair. HasSpanIndex pair.0.size pair.1) (subtables_in t.contents)) }
     ensures padding { IfOk result (λ t. AllByRecursion (λ byte. byte ≡ 0) t.filled) }
 {
-    let built = build_by(alloc, plan, choice, lists, watcher);
+    let built = build_by(alloc, choice, plan, lists, watcher);
     watcher.end();
     built
 }

@@ -13,20 +13,20 @@ use Rattle.szg_file.specs.Contents.{Contents, Slot, Subtable, constant, part_num
 use Rattle.szg_file.specs.Held.{subtable_of}
 use Rattle.szg_file.specs.Values.{constant_value, values_in}
 use Rattle.szg_file.proofs.Tables.TableFinds.{shaped_and_sound}
-use Rattle.szg_build.specs.declared.building.Choice.{Choice}
-use Rattle.szg_build.specs.declared.building.Packing.{Packing}
-use Rattle.szg_build.specs.declared.building.Choice.TheVariants.{Fixed, Small}
+use Rattle.szg_subtable.specs.declared.building.Choice.{Choice}
+use Rattle.szg_subtable.specs.declared.building.Packing.{Packing}
+use Rattle.szg_subtable.specs.declared.building.Choice.TheVariants.{Fixed, Small}
 use Rattle.szg_build.specs.declared.reading.packing.PackedSub.{PackedSub}
 use Rattle.szg_build.specs.declared.reading.gathering.Gathered.{Gathered}
 use Rattle.szg_build.specs.declared.reading.gathering.Subs.{Subs}
 use Rattle.szg_build.specs.Built.{dump_plan}
 use Rattle.szg_build.specs.Chosen.{numbers_in, plan_by, IsBuiltAs, IsCodedTable}
-use Rattle.szg_build.specs.Plan.{Plan, different_values, greatest_value, has_maps}
-use Rattle.szg_build.specs.Building.{IsBuiltSub, IsCodedBy}
+use Rattle.szg_subtable.specs.Pairing.{different_values}
+use Rattle.szg_build.specs.Plan.{Plan, greatest_value, has_maps}
 use Rattle.szg_build.specs.Rule.{constant_for}
-use Rattle.szg_build.specs.Tabling.{AreBuilt, AreMade, IsBuildable, IsBuiltBy, IsChoiceOf, HasNoFault}
+use Rattle.szg_build.specs.Tabling.{AreBuilt, AreMade, IsBuildable, IsBuiltBy, IsChoiceOf, HasNoFault, IsBuiltSub}
 use Rattle.szg_build.specs.Packed.{gathered_dump, lists_in, packed_values, AreFlagsOf, ArePacked, IsPackedAs, IsPackedSub, IsSettled}
-use Rattle.szg_build.proofs.Pairs.LeafLaws.{values_below-few, values_below-missing}
+use Rattle.szg_subtable.proofs.Pairs.LeafLaws.{values_below-few, values_below-missing}
 use Rattle.szg_build.proofs.Builders.RefusalLaws.{bits_parsed}
 use Rattle.szg_build.proofs.Builders.SubLaws.{replicated_all}
 use Rattle.szg_build.proofs.Builders.TableLaws.{codes_are, fixed_is_built, four, small_flags, small_is_built}
@@ -93,10 +93,6 @@ run_is_buildable kind value count small few = record {
   different = few_different (replicate count value) (all_equal (λ v. v ≤ 4) value count small);
 }
 
-coded : (choice : Choice) (flags byte : ℕ) → IsCodedBy choice (constant flags byte)
-coded (Fixed packing) flags byte = tt
-coded Small flags byte = tt
-
 pub run_is_built : (kind : Kind) (choice : Choice) (flags byte value count : ℕ) → flags < 32 → byte < 256 → constant_value kind byte ≡ value → constant_for kind (replicate count value) ≡ Some byte →
     IsBuiltSub kind flags (replicate count value) choice (constant (flags + 128) byte)
 run_is_built kind choice flags byte value count small fits same rule = record {
@@ -104,7 +100,7 @@ run_is_built kind choice flags byte value count small fits same rule = record {
   expands = ap (λ (n : ℕ). replicate n (constant_value kind byte)) (length-replicate count value) ∙ ap (replicate count) same;
   flags_kept = refl;
   packed = tt;
-  rule = record { constants = sym rule; codes = coded choice (flags + 128) byte; index = tt };
+  rule = record { constants = sym rule; codes = tt; index = tt };
 }
 
 -- ---- a subtable is added

@@ -6,13 +6,14 @@ use Rattle.std.proofs.lemmas.Bool.{eq-eqb, le-leb}
 use Rattle.std.proofs.lemmas.Bool.Decides.{nat_tests}
 use Rattle.std.proofs.lemmas.List.{length-map}
 use Rattle.szg_file.specs.Contents.{slots}
-use Rattle.szg_build.specs.declared.building.Choice.{Choice}
-use Rattle.szg_build.specs.declared.building.Packing.{Packing}
+use Rattle.szg_subtable.specs.declared.building.Choice.{Choice}
+use Rattle.szg_subtable.specs.declared.building.Packing.{Packing}
 use Rattle.szg_build.specs.declared.reading.gathering.Gathered.{Gathered}
 use Rattle.szg_build.specs.Built.{dump_plan}
 use Rattle.szg_build.specs.Chosen.{numbers_in, plan_by}
 use Rattle.szg_build.specs.Packed.{gathered_dump, lists_in, packed_values}
-use Rattle.szg_build.specs.Plan.{Plan, build_fault, different_values, greatest_value, has_maps, too_many_values, wrong_length, wrong_value}
+use Rattle.szg_subtable.specs.Pairing.{different_values}
+use Rattle.szg_build.specs.Plan.{Plan, build_fault, greatest_value, has_maps, too_many_values, wrong_length, wrong_value}
 use Rattle.szg_build.specs.Tabling.{IsBuildable, HasNoFault}
 use Rattle.szg_build.proofs.Builders.RefusalLaws.{all_as, bits_parsed, chain, fault_stated, four_all}
 use Rattle.szg_build.proofs.Builders.TableLaws.{rest_parsed}

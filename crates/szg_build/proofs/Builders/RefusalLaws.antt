@@ -15,7 +15,8 @@ use Rattle.szg_file.specs.Contents.{Map, part_numbers}
 use Rattle.std.proofs.lemmas.List.Folds.{list_all-map}
 use Rattle.szg_build.specs.declared.BuildFault.{BuildFault}
 use Rattle.szg_build.specs.declared.BuildFault.TheVariants as fault
-use Rattle.szg_build.specs.Plan.{Plan, fault_for, first_fault, unless, wrong_length, wrong_value, too_many_values, has_maps, greatest_value, different_values, is_map_of}
+use Rattle.szg_subtable.specs.Pairing.{different_values}
+use Rattle.szg_build.specs.Plan.{Plan, fault_for, first_fault, unless, wrong_length, wrong_value, too_many_values, has_maps, greatest_value, is_map_of}
 use Rattle.szg_build.specs.Tabling.{IsBuildable}
 
 -- ---- tests

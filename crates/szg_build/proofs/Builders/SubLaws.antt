@@ -5,45 +5,35 @@ use Rattle.std.specs.List.{list_all}
 use Rattle.std.proofs.lemmas.Bool.{eq-eqb}
 use Rattle.szg_values.specs.declared.Kind.TheVariants.{Wdl, Dtz}
 use Rattle.szg_values.specs.declared.Kind.{Kind}
-use Rattle.szg_file.specs.Contents.{Subtable, constant, pairs}
-use Rattle.szg_file.specs.Accepted.{IsPacked}
-use Rattle.szg_build.specs.declared.building.Packing.{Packing}
-use Rattle.szg_build.specs.declared.building.Choice.{Choice}
-use Rattle.szg_build.specs.declared.building.Choice.TheVariants.{Fixed, Small}
+use Rattle.szg_block.specs.Sound.{IsShapedLayout, IsSoundLayout}
+use Rattle.szg_block.specs.Subtable.{layout_from}
+use Rattle.szg_block.specs.declared.Sub.{Sub}
+use Rattle.szg_block.specs.declared.Sub.TheVariants.{Constant, Pairs}
+use Rattle.szg_file.specs.Assembled.{IsTyped}
+use Rattle.szg_file.specs.Held.{subtable_of}
+use Rattle.szg_file.proofs.Tables.AssembledLaws.{sub_standing}
+use Rattle.szg_subtable.specs.declared.building.Choice.{Choice}
+use Rattle.szg_subtable.specs.declared.building.Choice.TheVariants.{Fixed, Small}
+use Rattle.szg_subtable.specs.PackedSubtable.{IsInBounds, IsPackedSub}
 use Rattle.szg_build.specs.Plan.{Plan}
-use Rattle.szg_build.specs.Rule.{constant_for, HasSpanIndex, HasTruncatedBinary}
-use Rattle.szg_build.specs.Tabling.{IsInRange, IsChoiceOf}
-use Rattle.szg_build.specs.Building.{IsMadeSub, IsMadeSmall, IsBuiltSub, IsInBounds}
-use Rattle.szg_build.proofs.Builders.MadeLaws.{made_is_valid, made_values, made_pairs}
+use Rattle.szg_build.specs.Rule.{constant_for}
+use Rattle.szg_build.specs.Tabling.{IsInRange, IsChoiceOf, IsBuiltSub}
 
--- a subtable that is made and not constant is built
-pub made_is_built : (kind : Kind) (flags : ℕ) (values : List ℕ) (packing : Packing) (subtable : Subtable) → IsMadeSub values flags packing.block_bits packing.span_bits packing.rounds subtable →
-    flags < 128 → IsInBounds (Fixed packing) → constant_for kind values ≡ None → HasTruncatedBinary subtable → HasSpanIndex (length values) subtable → IsBuiltSub kind flags values (Fixed packing) subtable
-made_is_built kind flags values packing (constant f byte) h a b none coded index = absurd h
-made_is_built kind flags values packing (pairs head sparse lengths packed) h a b none coded index = record {
-  is_valid = λ slot size. subst (λ (n : ℕ). IsPacked n head sparse lengths packed) (sym size)
-      (made_is_valid values flags packing.block_bits packing.span_bits packing.rounds head sparse lengths packed h a b.0 b.1 b.2 b.3);
-  expands = made_values values flags packing.block_bits packing.span_bits packing.rounds head sparse lengths packed h;
-  flags_kept = h.flags_kept;
-  packed = (h.block_bits_kept, h.span_bits_kept, made_pairs values flags packing.block_bits packing.span_bits packing.rounds head sparse lengths packed h);
-  rule = record { constants = sym none; codes = coded; index = index };
-}
-
-made_by : (kind : Kind) (flags : ℕ) (values : List ℕ) (block_bits span_bits rounds : ℕ) (subtable : Subtable) → IsMadeSub values flags block_bits span_bits rounds subtable →
-    flags < 128 → 5 ≤ block_bits → block_bits ≤ 10 → 1 ≤ span_bits → span_bits ≤ 16 → constant_for kind values ≡ None → HasSpanIndex (length values) subtable → IsBuiltSub kind flags values Small subtable
-made_by kind flags values block_bits span_bits rounds (constant f byte) h a b c d e none index = absurd h
-made_by kind flags values block_bits span_bits rounds (pairs head sparse lengths packed) h a b c d e none index = record {
-  is_valid = λ slot size. subst (λ (n : ℕ). IsPacked n head sparse lengths packed) (sym size) (made_is_valid values flags block_bits span_bits rounds head sparse lengths packed h a b c d e);
-  expands = made_values values flags block_bits span_bits rounds head sparse lengths packed h;
-  flags_kept = h.flags_kept;
-  packed = (rounds, made_pairs values flags block_bits span_bits rounds head sparse lengths packed h);
-  rule = record { constants = sym none; codes = tt; index = index };
-}
-
--- a subtable that is made with some numbers is built as a small one
-pub small_is_built : (kind : Kind) (flags : ℕ) (values : List ℕ) (subtable : Subtable) → IsMadeSmall values flags subtable → flags < 128 → constant_for kind values ≡ None → HasSpanIndex (length values) subtable → IsBuiltSub kind flags values Small subtable
-small_is_built kind flags values subtable h a none index =
-    made_by kind flags values h.block_bits h.span_bits h.rounds subtable h.made a h.least_block h.most_block h.least_span h.most_span none index
+-- a packed subtable whose values make no constant one is built
+pub packed_is_built : (kind : Kind) (flags : ℕ) (values : List ℕ) (choice : Choice) (sub : Sub) → IsPackedSub values flags choice sub → IsTyped (subtable_of sub) → flags < 128 → constant_for kind values ≡ None →
+    IsBuiltSub kind flags values choice (subtable_of sub)
+packed_is_built kind flags values choice (Constant f byte) h typed small none = absurd h
+packed_is_built kind flags values choice (Pairs f block_bits span_bits extra blocks code dict sparse lengths packed) h typed small none =
+    let layout = layout_from block_bits span_bits extra blocks code dict sparse.items lengths.items in
+    record {
+      is_valid = λ slot size. sub_standing slot (Pairs f block_bits span_bits extra blocks code dict sparse lengths packed) typed
+          ((omega (arith, h.0, small), subst (λ (n : ℕ). IsShapedLayout layout n) (sym size) h.1.shaped), h.1.whole)
+          (subst (λ (n : ℕ). IsSoundLayout layout packed.items n) (sym size) h.1.sound);
+      expands = h.1.expands;
+      flags_kept = h.0;
+      packed = h.1.chosen;
+      rule = record { constants = sym none; codes = h.1.code; index = h.1.index };
+    }
 
 -- if a plan's numbers are in their ranges, its choice's numbers are in their bounds
 pub choice_in_bounds : (plan : Plan) (choice : Choice) → IsInRange plan → IsChoiceOf plan choice → IsInBounds choice
@@ -55,12 +45,6 @@ choice_in_bounds plan (Fixed packing) range same = (
   omega (arith, same.2, range.rounds),
 )
 choice_in_bounds plan Small range same = tt
-
-pub bounds_as : (choice other : Choice) → choice ≡ other → IsInBounds choice → IsInBounds other
-bounds_as choice other e h = subst (λ (z : Choice). IsInBounds z) e h
-
-pub built_as : (kind : Kind) (flags : ℕ) (values : List ℕ) (choice other : Choice) (subtable : Subtable) → choice ≡ other → IsBuiltSub kind flags values other subtable → IsBuiltSub kind flags values choice subtable
-built_as kind flags values choice other subtable e h = subst (λ (z : Choice). IsBuiltSub kind flags values z subtable) (sym e) h
 
 -- if P implies Q for each value, it does for the value of a result
 pub if_ok : {A E : Type 0} {P Q : A → Type 0} (r : Result A E) → ((x : A) → P x → Q x) → IfOk r P → IfOk r Q
@@ -89,7 +73,3 @@ dtz_constant values one e all =
 pub none_of : {A : Type 0} (o : Option A) → ((x : A) → o ≡ Some x → ⊥) → o ≡ None
 none_of None h = refl
 none_of (Some x) h = absurd (h x refl)
-
-pub both_ok : {A E : Type 0} (P Q : A → Type 0) (r : Result A E) → IfOk r P → IfOk r Q → IfOk r (λ x. P x × Q x)
-both_ok P Q (Ok x) p q = (p, q)
-both_ok P Q (Err e) p q = tt

@@ -21,14 +21,14 @@ use Rattle.std.proofs.Math.Seq.{take-suc}
 use Rattle.std.proofs.lemmas.List.Elements.{All-from_recursion, All-get_or}
 use Rattle.szg_build.specs.declared.BuildFault.{BuildFault}
 use Rattle.szg_build.specs.declared.BuildFault.TheVariants as fault
-use Rattle.szg_build.specs.declared.building.Choice.{Choice}
-use Rattle.szg_build.specs.declared.building.Choice.TheVariants.{Fixed, Small}
+use Rattle.szg_subtable.specs.declared.building.Choice.{Choice}
+use Rattle.szg_subtable.specs.declared.building.Choice.TheVariants.{Fixed, Small}
 use Rattle.szg_build.specs.Plan.{Plan, has_parts, is_part, has_maps, is_map_of, sizes_if_valid, build_fault, fault_for, wrong_length, wrong_value, too_many_values}
-use Rattle.szg_build.specs.Building.{IsBuiltSub, IsByRule, IsPackedBy}
+use Rattle.szg_subtable.specs.PackedSubtable.{IsPackedBy}
 use Rattle.szg_build.specs.Rule.{byte4_for, constant_for, constant_in, HasSpanIndex, HasTruncatedBinary}
-use Rattle.szg_build.specs.declared.building.Packing.{Packing}
+use Rattle.szg_subtable.specs.declared.building.Packing.{Packing}
 use Rattle.szg_build.specs.Built.{IsBuilt, IsBuiltSmall, layout_in, packed_in, flags_byte, flags_bytes}
-use Rattle.szg_build.specs.Tabling.{AreBuilt, IsBuiltBare, IsBuiltBy, IsOfBytes, IsOfItems, HasNoFault}
+use Rattle.szg_build.specs.Tabling.{AreBuilt, IsBuiltBare, IsBuiltBy, IsOfBytes, IsOfItems, HasNoFault, IsBuiltSub, IsByRule}
 use Rattle.szg_build.proofs.Builders.RefusalLaws.{all_held, all_both, none_pass, sizes_are, lists_are_valid, fault_stated, passed, bits_parsed, maps_pass}
 
 -- ---- parts
@@ -240,7 +240,8 @@ pub codes_are : (kind : Kind) (packing : Packing) (lists : List (List ℕ)) (sub
 codes_are kind packing [] [] h = tt
 codes_are kind packing [] (s ∷ subtables) h = absurd h
 codes_are kind packing (v ∷ lists) [] h = absurd h
-codes_are kind packing (v ∷ lists) (s ∷ subtables) h = (h.0.codes, codes_are kind packing lists subtables h.1)
+codes_are kind packing (v ∷ lists) (constant f byte ∷ subtables) h = (tt, codes_are kind packing lists subtables h.1)
+codes_are kind packing (v ∷ lists) (pairs head sparse lengths packed ∷ subtables) h = (h.0.codes, codes_are kind packing lists subtables h.1)
 
 -- ---- flags and maps
 

@@ -14,7 +14,6 @@ ghost use Rattle.szg_build.specs.Reading.{ReadsLines};
 ghost use Rattle.szg_build.specs.Shown.{dump_seen, form_of, FollowsLines, TookLines};
 ghost use Rattle.szg_build.specs.Wholes.{dump_after_kind, dump_after_parts};
 
-use crate::building::{Choice, Packing};
 use crate::dump::{Dump, DumpReadFault};
 use crate::places::places;
 use crate::reading::gathering::{Gathered, Header, Subs, add_sub, list_dump};
@@ -25,11 +24,11 @@ use crate::reading::packed_dump::{PackedDump, packed_dump};
 use crate::reading::read_parts;
 use crate::reading::subreading::read_sub;
 use crate::table::parts_fit;
-use crate::watching::{Unwatched, Watcher};
 use arrayvec::ArrayVec;
 use std::alloc::Global;
 use szg_file::{PartBytes, subtable_sizes};
 use szg_io::Input;
+use szg_subtable::{Choice, Packing, Unwatched, Watcher};
 use szg_values::{Kind, Material};
 
 /// A choice with numbers that no table has, so no list of values is packed.

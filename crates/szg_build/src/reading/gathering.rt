@@ -4,16 +4,15 @@ ghost use Rattle.std.specs.List.{AllByRecursion};
 ghost use Rattle.szg_build.specs.Packed.{gathered_dump, lists_held, lists_in, values_held, ArePacked, IsAdded, IsPackedSub};
 ghost use Rattle.szg_build.specs.Shown.{dump_seen};
 ghost use Rattle.szg_build.specs.Wholes.{only_in_dtz};
-ghost use Rattle.szg_build.specs.declared.building.Choice.{Choice};
+ghost use Rattle.szg_subtable.specs.declared.building.Choice.{Choice};
 
-use crate::building::Choice;
 use crate::dump::Dump;
 use crate::reading::packing::{PackedSub, pack_equal, pack_list, unpack};
 use crate::reading::subreading::SubText;
 use crate::reading::values::Values;
-use crate::watching::Watcher;
 use std::alloc::{AllocError, Global};
 use szg_file::{Map, PartBytes};
+use szg_subtable::{Choice, Watcher};
 use szg_values::{Kind, Material};
 
 /// The lines before the subtables.

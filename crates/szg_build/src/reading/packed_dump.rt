@@ -8,20 +8,19 @@ ghost use Rattle.szg_build.specs.Plan.{build_fault};
 ghost use Rattle.szg_build.specs.Shown.{plan_seen};
 ghost use Rattle.szg_build.specs.Tabling.{IsBuiltBy, IsChoiceOf, HasNoFault};
 ghost use Rattle.szg_build.specs.declared.BuildFault.{BuildFault};
-ghost use Rattle.szg_build.specs.declared.building.Choice.{Choice};
+ghost use Rattle.szg_subtable.specs.declared.building.Choice.{Choice};
 
-use crate::building::headers::count_other_bytes;
-use crate::building::{Choice, Packing};
+use crate::headers::count_other_bytes;
 use crate::reading::gathering::{Gathered, list_all};
 use crate::reading::packing::{PackedSub, pack, unpack};
 use crate::refusing::{MAX_ROUNDS, are_bits_valid, are_maps_valid};
 use crate::table::{build_by, parts_fit, table_from};
-use crate::watching::Watcher;
 use crate::{BuildFault, Plan};
 use std::alloc::{AllocError, Global};
 use std::marker::Model;
 use szg_block::block_count;
 use szg_file::{Table, subtable_sizes};
+use szg_subtable::{Choice, Packing, Watcher};
 
 /// The content of a dump, whose subtables were packed while it was read.
 #[derive(Drop)]
@@ -207,7 +206,7 @@ fn build_lists<V: Watcher>(
 {
     let lists = list_all(alloc, plan.kind, packed, rest)?;
     let lent = lend(alloc, &lists)?;
-    build_by(alloc, plan, choice, &lent, watcher)
+    build_by(alloc, choice, plan, &lent, watcher)
 }
 
 /// Returns the numbers of a choice. For a small table, whose packing does not use them, returns numbers that pass the

@@ -2,21 +2,19 @@
 ghost use Rattle.std.specs.Prelude.{◌≡◌, ◌<◌, ◌≤◌, replicate, true, Some, IfOk, IfSome};
 ghost use Rattle.szg_values.specs.declared.Kind.TheVariants.{Wdl};
 ghost use Rattle.szg_file.specs.Values.{constant_value as value_of_byte};
-ghost use Rattle.szg_build.specs.Building.{IsInBounds};
+ghost use Rattle.szg_subtable.specs.PackedSubtable.{IsInBounds};
 ghost use Rattle.szg_build.specs.Packed.{packed_values, values_held, IsPackedAs, IsPackedSub};
 ghost use Rattle.szg_build.specs.Rule.{constant_for};
 ghost use Rattle.szg_build.specs.Tabling.{IsBuildable};
-ghost use Rattle.szg_build.specs.declared.building.Choice.{Choice};
+ghost use Rattle.szg_subtable.specs.declared.building.Choice.{Choice};
 
-use crate::building::subtables::{CONSTANT, build_sub};
-use crate::building::{Choice, Packing};
-use crate::pairing::leaves::count_different;
 use crate::reading::values::Values;
 use crate::refusing::{MAX_DIFFERENT, MAX_ROUNDS, are_bits_valid, has_above};
-use crate::watching::Watcher;
+use crate::subtables::{CONSTANT, build_sub};
 use std::alloc::{AllocError, Global};
 use szg_block::{Sound, Sub};
 use szg_file::constant_value;
+use szg_subtable::{Choice, Packing, Watcher, count_different};
 use szg_values::Kind;
 
 /// The sizes of subtables are below this number; a list of this length or more is not packed.

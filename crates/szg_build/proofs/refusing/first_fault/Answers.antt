@@ -8,7 +8,8 @@ use Rattle.std.proofs.lemmas.Iterator.{YieldsList-from_slice, YieldsList-from_zi
 use Rattle.std.proofs.lemmas.Iterator.Search.{position_from_yields_List}
 use Rattle.std.proofs.lemmas.List.{length-map}
 use Rattle.szg_build.specs.declared.BuildFault.TheVariants.{Map}
-use Rattle.szg_build.specs.Plan.{different_values, greatest_value, wrong_length}
+use Rattle.szg_subtable.specs.Pairing.{different_values}
+use Rattle.szg_build.specs.Plan.{greatest_value, wrong_length}
 use Rattle.szg_build.specs.Shown.{plan_seen}
 use Rattle.szg_build.proofs.Builders.RefusalLaws as laws
 use Rattle.szg_build.proofs.refusing.first_fault.Goals as goal

@@ -1,0 +1,9 @@
+pub mod CodeChoice
+pub mod BlockLaws
+pub mod Filling
+pub mod BlockSteps
+pub mod SparseLaws
+pub mod MadeLaws
+pub mod RuleLaws
+pub mod Entries
+pub mod WordBits

@@ -1,0 +1,5 @@
+pub mod Pairing
+pub mod Counting
+pub mod Building
+pub mod SubtableRule
+pub mod PackedSubtable
