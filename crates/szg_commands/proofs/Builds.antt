@@ -6,7 +6,7 @@ use Rattle.szg_build.specs.Dump.{Dump}
 use Rattle.szg_build.specs.Plan.{build_fault}
 use Rattle.szg_build.specs.declared.BuildFault.{BuildFault}
 use Rattle.szg_build.specs.declared.BuildFault.TheVariants as faults
-use Rattle.szg_build.specs.declared.building.Choice.{Choice}
+use Rattle.szg_subtable.specs.declared.building.Choice.{Choice}
 use Rattle.szg_commands.specs.Builds.{IsBuiltIn, IsRefusedPlan}
 use Rattle.szg_commands.specs.declared.refusal.Refusal.{Refusal}
 

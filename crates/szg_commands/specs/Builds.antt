@@ -13,7 +13,7 @@ use Rattle.szg_build.specs.Lines.{Verdict, good, verdict}
 use Rattle.szg_build.specs.Plan.{Plan, build_fault}
 use Rattle.szg_build.specs.Reading.{IsLineFault, IsPlanFault, EndsWith}
 use Rattle.szg_build.specs.declared.BuildFault.{BuildFault}
-use Rattle.szg_build.specs.declared.building.Choice.{Choice}
+use Rattle.szg_subtable.specs.declared.building.Choice.{Choice}
 use Rattle.szg_commands.specs.declared.refusal.Refusal.{Refusal}
 use Rattle.szg_commands.specs.declared.refusal.Refusal.TheVariants as why
 

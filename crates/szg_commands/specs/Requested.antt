@@ -13,8 +13,8 @@ use Rattle.szg_commands.specs.declared.refusal.Refusal.{Refusal}
 use Rattle.szg_commands.specs.declared.request.Action.{Action}
 use Rattle.szg_commands.specs.declared.request.Action.TheVariants as actions
 use Rattle.szg_commands.specs.declared.request.AskedClass.{AskedClass}
-use Rattle.szg_build.specs.declared.building.Choice.{Choice}
-use Rattle.szg_build.specs.declared.building.Choice.TheVariants.{Fixed, Small}
+use Rattle.szg_subtable.specs.declared.building.Choice.{Choice}
+use Rattle.szg_subtable.specs.declared.building.Choice.TheVariants.{Fixed, Small}
 use Rattle.szg_commands.specs.declared.request.Request.{Request}
 use Rattle.szg_commands.specs.declared.request.Task.{Task}
 use Rattle.szg_commands.specs.declared.request.Task.TheVariants.{OnTable, Build}
