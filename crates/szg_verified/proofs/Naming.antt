@@ -1,18 +1,12 @@
 -- The materials of names.
 use denote.Ref.{Bor}
 use Rattle.std.proofs.Common.{ℕ, ◌≡◌, ◌+◌, ◌<◌, ◌≤◌, List, [], ◌∷◌, length, get_or, take, refl, sym, subst, arith, false, Contains, Option, Some, None}
-use Rattle.std.specs.Prelude.{Ok, Err, IsOk, IsSomeAnd, OnOk, Result, is_err}
+use Rattle.std.specs.Prelude.{Ok, Err, IsSomeAnd, OnOk, Result, is_err}
 use Rattle.std.proofs.lemmas.List.{take_more}
 use Rattle.std.proofs.lemmas.List.Elements.{All-push}
 use Rattle.szg_values.specs.Material.{Sides, parsed}
-use Rattle.szg_verify.specs.Entries.{tables_of}
-use Rattle.szg_verify.specs.Walk.{IsShardChecked}
-use Rattle.szg_tables.specs.Distances.{stored_distances}
-use Rattle.szg_tables.specs.Stored.{stored_classes}
 use Rattle.szg_verified.specs.Logs.{IsShardText}
-use Rattle.szg_verified.specs.Runs.{AreNamed, IsNamedIn, IsShardRun}
-use Rattle.szg_verified.specs.declared.folder.ShardVerification.{ShardVerification}
-use Rattle.szg_verified.specs.declared.run.VerificationAsked.{VerificationAsked}
+use Rattle.szg_verified.specs.Runs.{AreNamed, IsNamedIn}
 
 pub done : {T E : Type 0} {P : Type 0} (r : Result T E) → is_err r ≡ false → OnOk r P → P
 done (Ok x) e p = p
@@ -31,21 +25,8 @@ pub shard_named : (given : Option (Bor (List ℕ))) (text : List ℕ) (before sh
 shard_named None text before shards is named = absurd is
 shard_named (Some t) text before shards is named = subst (λ (bytes : List ℕ). IsShardText bytes before shards) (sym is) named
 
-alone : (names : List (Bor (List ℕ))) (d : Bor (List ℕ)) → 1 ≤ length names → length names < 2 → names ≡ get_or names 0 d ∷ []
+-- one name, if there are one at least and less than two
+pub alone : (names : List (Bor (List ℕ))) (d : Bor (List ℕ)) → 1 ≤ length names → length names < 2 → names ≡ get_or names 0 d ∷ []
 alone [] d least most = absurd (omega (arith, least))
 alone (name ∷ []) d least most = refl
 alone (name ∷ other ∷ names) d least most = absurd (omega (arith, most))
-
--- the shard of the one material that is named
-pub shard_run : (asked : VerificationAsked) (v : ShardVerification) (d : Bor (List ℕ)) (material : Sides) (before shards : ℕ) → 1 ≤ length asked.names.now → length asked.names.now < 2 → parsed (get_or asked.names.now 0 d).now ≡ Ok material →
-    IsSomeAnd asked.shard (λ text. IsShardText text.now before shards) → (IsOk v.positions → IsShardChecked (tables_of (stored_classes v.tables.items) (stored_distances v.tables.items)) material shards before) → IsShardRun asked v
-shard_run asked v d material before shards least most named shard checked = record {
-  name = get_or asked.names.now 0 d;
-  material = material;
-  before = before;
-  shards = shards;
-  alone = alone asked.names.now d least most;
-  named = named;
-  shard = shard;
-  checked = checked;
-}

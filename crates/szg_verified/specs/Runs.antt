@@ -1,5 +1,5 @@
 -- What a run of a verification came to.
-use Rattle.std.specs.Prelude.{ℕ, ◌≡◌, All, Bool, false, Contains, List, [], ◌∷◌, Ok, ⊤, IsNone, IsOk, IsSomeAnd, IsTrue, is_ok}
+use Rattle.std.specs.Prelude.{ℕ, ◌≡◌, All, Bool, false, Contains, List, [], ◌∷◌, Ok, ⊤, IfErr, IfOk, IsNone, IsOk, IsSomeAnd, IsTrue, is_ok, min}
 use denote.Ref.{Bor}
 use Rattle.szg_values.specs.Material.{Sides, parsed}
 use Rattle.szg_verify.specs.Entries.{tables_of}
@@ -7,7 +7,7 @@ use Rattle.szg_verify.specs.Walk.{IsShardChecked}
 use Rattle.szg_tables.specs.Distances.{stored_distances}
 use Rattle.szg_tables.specs.Stored.{stored_classes}
 use Rattle.szg_verified.specs.Logs.{IsShardText}
-use Rattle.szg_verified.specs.Verified.{AreCheckedIn, AreTrue, IsCaused, is_whole}
+use Rattle.szg_verified.specs.Verified.{AreCheckedIn, AreTrue, IsCauseInShard, IsCaused, is_whole, shard_count}
 use Rattle.szg_verified.specs.declared.folder.ShardVerification.{ShardVerification}
 use Rattle.szg_verified.specs.declared.folder.Verification.{Verification}
 use Rattle.szg_verified.specs.declared.run.Run.{Run}
@@ -30,7 +30,7 @@ pub record IsFolderRun (asked : VerificationAsked) (v : Verification) : Type 0 w
   pub all : v.is_all ≡ is_whole v.materials.items v.unverified.items
   pub caused : All (IsCaused v.tables.items v.materials.items v.unverified.items) v.unverified.items
 
--- The shard of the one material that is named was checked over the tables that were read.
+-- The shard of the one material that is named was checked over the tables that were read, as `verify_folder_shard` says.
 pub record IsShardRun (asked : VerificationAsked) (v : ShardVerification) : Type 0 where
   pub name : Bor (List ℕ)
   pub material : Sides
@@ -40,6 +40,8 @@ pub record IsShardRun (asked : VerificationAsked) (v : ShardVerification) : Type
   pub named : parsed name.now ≡ Ok material
   pub shard : IsSomeAnd asked.shard (λ text. IsShardText text.now before shards)
   pub checked : IsOk v.positions → IsShardChecked (tables_of (stored_classes v.tables.items) (stored_distances v.tables.items)) material shards before
+  pub caused : IfErr v.positions (IsCauseInShard v.tables.items material shards before)
+  pub counted : IfOk v.positions (λ n. n ≡ min (shard_count material shards before) 18446744073709551615)
 
 -- what a run came to, by what was asked
 abbrev pub IsRun : VerificationAsked → Run → Type 0
