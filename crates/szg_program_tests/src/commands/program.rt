@@ -111,69 +111,68 @@ fn check_cases(
     Ok(())
 }
 
+/// Command lines with the status, the standard output and the standard error that they end with.
+static ENDINGS: [(&str, u8, &str, &str); 19] = [
+    ("szg check KPvK wdl", 0, "ok 80\n", ""),
+    ("szg get KPvK wdl 5", 0, "0\n", ""),
+    ("szg get KPvK wdl 5 --side 1", 0, "1\n", ""),
+    ("szg get KPvK wdl 5 --part b", 0, "2\n", ""),
+    ("szg get KPvK wdl 5 --part c", 0, "4\n", ""),
+    ("szg get --part=d KPvK wdl --side=1 5", 0, "7\n", ""),
+    ("szg probe KPvK wdl w Ke1 Pc2 ke8", 0, "2\n", ""),
+    ("szg probe KPvK wdl b Ke1 Pa2 ke8", 0, "-1\n", ""),
+    ("szg probe KPvK wdl b Ke1 Pc2 ke8", 0, "none\n", ""),
+    (
+        "szg placement KPvK wdl 21564 --part d",
+        0,
+        "w Kd1 Pd2 kd8\n",
+        "",
+    ),
+    (
+        "szg placement KPvK wdl 21564 --part d --side 1",
+        0,
+        "b Kd1 Pd2 kd8\n",
+        "",
+    ),
+    ("szg check KPvK dtz", 1, "refused at 0: Magic\n", ""),
+    (
+        "szg check KvKP wdl",
+        1,
+        "refused name: Sides\n",
+        "KvKP: the side with more men comes first: KPvK\n",
+    ),
+    ("szg --version", 2, "", "szg 2.0.0\n"),
+    ("szg -V", 2, "", "szg 2.0.0\n"),
+    (
+        "szg frob",
+        2,
+        "",
+        "error: unrecognized subcommand 'frob'\n\n  tip: a similar subcommand exists: 'probe'\n\nUsage: szg <COMMAND>\n\nFor more information, try '--help'.\n",
+    ),
+    (
+        "szg get KPvK wdl 0 --side 2",
+        2,
+        "",
+        "error: invalid value '2' for '--side <SIDE>': not a number from 0 to 1\n\nUsage: szg get [OPTIONS] <NAME> <KIND> <INDEX>\n\nFor more information, try '--help'.\n",
+    ),
+    (
+        "szg check no/KPvK.rtbw",
+        3,
+        "no/KPvK.rtbw: No such file or directory\nfiles 1: ok 0, refused 0, unread 1\n",
+        "",
+    ),
+    (
+        "szg show no/KPvK.rtbw",
+        3,
+        "",
+        "no/KPvK.rtbw: No such file or directory\n",
+    ),
+];
+
 #[test]
 fn streams_and_statuses(rt: HostRuntime) -> Result<(), Fail> {
     let file = kpvk_wdl_numbered(rt.alloc())?;
-    check_cases(
-        &rt,
-        &file,
-        &[
-            ("szg check KPvK wdl", 0, "ok 80\n", ""),
-            ("szg get KPvK wdl 5", 0, "0\n", ""),
-            ("szg get KPvK wdl 5 --side 1", 0, "1\n", ""),
-            ("szg get KPvK wdl 5 --part b", 0, "2\n", ""),
-            ("szg get KPvK wdl 5 --part c", 0, "4\n", ""),
-            ("szg get --part=d KPvK wdl --side=1 5", 0, "7\n", ""),
-            ("szg probe KPvK wdl w Ke1 Pc2 ke8", 0, "2\n", ""),
-            ("szg probe KPvK wdl b Ke1 Pa2 ke8", 0, "-1\n", ""),
-            ("szg probe KPvK wdl b Ke1 Pc2 ke8", 0, "none\n", ""),
-            (
-                "szg placement KPvK wdl 21564 --part d",
-                0,
-                "w Kd1 Pd2 kd8\n",
-                "",
-            ),
-            (
-                "szg placement KPvK wdl 21564 --part d --side 1",
-                0,
-                "b Kd1 Pd2 kd8\n",
-                "",
-            ),
-            ("szg check KPvK dtz", 1, "refused at 0: Magic\n", ""),
-            (
-                "szg check KvKP wdl",
-                1,
-                "refused name: Sides\n",
-                "KvKP: the side with more men comes first: KPvK\n",
-            ),
-            ("szg --version", 2, "", "szg 2.0.0\n"),
-            ("szg -V", 2, "", "szg 2.0.0\n"),
-            (
-                "szg frob",
-                2,
-                "",
-                "error: unrecognized subcommand 'frob'\n\n  tip: a similar subcommand exists: 'probe'\n\nUsage: szg <COMMAND>\n\nFor more information, try '--help'.\n",
-            ),
-            (
-                "szg get KPvK wdl 0 --side 2",
-                2,
-                "",
-                "error: invalid value '2' for '--side <SIDE>': not a number from 0 to 1\n\nUsage: szg get [OPTIONS] <NAME> <KIND> <INDEX>\n\nFor more information, try '--help'.\n",
-            ),
-            (
-                "szg check no/KPvK.rtbw",
-                3,
-                "no/KPvK.rtbw: No such file or directory\nfiles 1: ok 0, refused 0, unread 1\n",
-                "",
-            ),
-            (
-                "szg show no/KPvK.rtbw",
-                3,
-                "",
-                "no/KPvK.rtbw: No such file or directory\n",
-            ),
-        ],
-    )
+    check_cases(&rt, &file, &ENDINGS)
 }
 
 /// The help of the program.
