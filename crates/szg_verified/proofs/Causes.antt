@@ -22,7 +22,7 @@ use Rattle.szg_verified.specs.Logs.{AreRecorded}
 
 -- what is found of a material that is found to be verified, or not
 pub verified_as : (tables : List Shown) (us : List Unverified) (log : Option (Bor (List ℕ))) (sides : Sides) (found : MaterialFinding) (positions : ℕ) → found ≡ Verified positions → IsFinding tables us log sides found → IsCheckedIn tables sides
-verified_as tables us log sides found positions e h = subst (IsFinding tables us log sides) e h
+verified_as tables us log sides found positions e h = (subst (IsFinding tables us log sides) e h).0
 
 pub failed_as : (tables : List Shown) (us : List Unverified) (log : Option (Bor (List ℕ))) (sides : Sides) (found : MaterialFinding) (cause : Cause) → found ≡ Failed cause → IsFinding tables us log sides found → IsCauseOf tables us sides cause
 failed_as tables us log sides found cause e h = subst (IsFinding tables us log sides) e h

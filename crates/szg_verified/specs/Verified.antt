@@ -1,5 +1,5 @@
 -- What a verification that finds no fault says of tables.
-use Rattle.std.specs.Prelude.{ℕ, ◌≡◌, ◌+◌, ◌⊎◌, ◌&&◌, not, map, All, Bool, Contains, List, [], ◌∷◌, ◌++◌, Option, Some, IsSomeAnd, IsFalse, IsTrue, is_some, find, string_bytes, if◌then◌else◌}
+use Rattle.std.specs.Prelude.{ℕ, ◌≡◌, ◌+◌, ◌⊎◌, ◌&&◌, not, map, All, Bool, Contains, List, [], ◌∷◌, ◌++◌, Option, Some, IsSomeAnd, IsFalse, IsTrue, is_some, min, find, string_bytes, if◌then◌else◌}
 use denote.Ref.{Bor}
 use Rattle.szg_values.specs.Material.{IsMaterial, Sides, name_of}
 use Rattle.szg_values.specs.declared.Kind.{Kind}
@@ -13,7 +13,7 @@ use Rattle.szg_probe.specs.Chess.{ChessClass}
 use Rattle.szg_probe.specs.Probing.{probed}
 use Rattle.szg_verify.specs.Entries.{tables_of}
 use Rattle.szg_verify.specs.Materials.{are_closed, covers, leads_to}
-use Rattle.szg_verify.specs.Walk.{IsFirstRefused, IsMaterialChecked, colored_men, number_count, shard_start}
+use Rattle.szg_verify.specs.Walk.{IsFirstRefused, IsMaterialChecked, colored_men, material_count, number_count, position_count, shard_start}
 use Rattle.szg_tables.specs.Distances.{stored_distances}
 use Rattle.szg_tables.specs.Fetched.{IsOfTable, fetched_classes, fetched_numbers}
 use Rattle.szg_tables.specs.Stored.{is_for, stored_classes, stored_numbers}
@@ -78,13 +78,19 @@ IsCauseInShard tables sides shards before cause =
     let count = number_count (colored_men sides) in
     IsCause tables [] sides (shard_start count shards before) (shard_start count shards (before + 1)) cause
 
+-- how many legal positions a shard of the material walks: of `shards` shards, the one after `before` others
+abbrev pub shard_count : Sides → ℕ → ℕ → ℕ
+shard_count sides shards before =
+    let count = number_count (colored_men sides) in
+    position_count (colored_men sides) (shard_start count shards before) (shard_start count shards (before + 1))
+
 -- by the lines of a log the material was verified, with tables of the same digest
 abbrev pub IsLoggedIn : Option (Bor (List ℕ)) → List Shown → Sides → Type 0
 IsLoggedIn log tables sides = IsSomeAnd log (λ text. (digest : List ℕ) × IsDigestOf tables sides digest × AreRecorded text.now (name_of sides) digest)
 
 -- what was found of a material, after those that are not verified, and by a log
 abbrev pub IsFinding : List Shown → List Unverified → Option (Bor (List ℕ)) → Sides → MaterialFinding → Type 0
-IsFinding tables unverified log sides (Verified positions) = IsCheckedIn tables sides
+IsFinding tables unverified log sides (Verified positions) = IsCheckedIn tables sides × (positions ≡ min (material_count sides) 18446744073709551615)
 IsFinding tables unverified log sides (Logged positions) = IsLoggedIn log tables sides
 IsFinding tables unverified log sides (Failed cause) = IsCauseOf tables unverified sides cause
 

@@ -1,12 +1,12 @@
 //! The verification of a folder.
 
-ghost use Rattle.std.specs.Prelude.{◌≡◌, ◌<◌, [], All, Contains, IfErr, IfOk, IsNone, IsOk, IsTrue, List, OnOk};
+ghost use Rattle.std.specs.Prelude.{◌≡◌, ◌<◌, [], All, Contains, IfErr, IfOk, IsNone, IsOk, min, IsTrue, List, OnOk};
 ghost use Rattle.szg_values.specs.Material.{Sides};
 ghost use Rattle.szg_verify.specs.Entries.{tables_of};
 ghost use Rattle.szg_verify.specs.Walk.{IsShardChecked};
 ghost use Rattle.szg_tables.specs.Distances.{stored_distances};
 ghost use Rattle.szg_tables.specs.Stored.{stored_classes};
-ghost use Rattle.szg_verified.specs.Verified.{AreCheckedIn, AreReadFrom, AreTrue, IsAdded, IsCauseInShard, IsCaused, IsLoggedIn, is_whole};
+ghost use Rattle.szg_verified.specs.Verified.{AreCheckedIn, AreReadFrom, AreTrue, IsAdded, IsCauseInShard, IsCaused, IsLoggedIn, is_whole, shard_count};
 
 use crate::changes::{add_needed, needed_by};
 use crate::verifying::{Cause, Progress, Unverified, verify_materials, verify_shard};
@@ -172,6 +172,7 @@ pub fn verify_folder_shard<S: FileSystem, W: Write, P: Progress>(
     ensures checked { IfOk result (λ v. IsOk v.positions → IsShardChecked (tables_of (stored_classes v.tables.items) (stored_distances v.tables.items)) material.now shard.shards shard.before) }
     // It says no with a cause: a refusal names the first of the shard's positions that breaks a condition over these tables.
     ensures caused { IfOk result (λ v. IfErr v.positions (IsCauseInShard v.tables.items material.now shard.shards shard.before)) }
+    ensures counted { IfOk result (λ v. IfOk v.positions (λ n. n ≡ min (shard_count material.now shard.shards shard.before) u64.MAX)) }
     ensures content { S.content system.new ≡ S.content system.old }
     ensures read { IfOk result (λ v. (materials : List Sides) × Contains materials material.now × AreReadFrom (S.content system.old) folder.now materials v.tables.items) }
 {

@@ -1,14 +1,14 @@
 //! The verification of materials over tables in memory.
 
-ghost use Rattle.std.specs.Prelude.{◌≡◌, ◌<◌, [], All, IfErr, IfOk, IfSome, IsNone, IsOk, IsTrue, List, find, ℕ};
+ghost use Rattle.std.specs.Prelude.{◌≡◌, ◌<◌, [], All, IfErr, IfOk, IfSome, IsNone, IsOk, IsTrue, List, find, min, ℕ};
 ghost use Rattle.szg_values.specs.Material.{Sides};
 ghost use Rattle.szg_game.specs.Game.{is_empty};
 ghost use Rattle.szg_verify.specs.Entries.{tables_of};
 ghost use Rattle.szg_verify.specs.Materials.{leads_to};
-ghost use Rattle.szg_verify.specs.Walk.{IsRangeChecked, IsShardChecked};
+ghost use Rattle.szg_verify.specs.Walk.{IsRangeChecked, IsShardChecked, colored_men, position_count};
 ghost use Rattle.szg_tables.specs.Distances.{stored_distances};
 ghost use Rattle.szg_tables.specs.Stored.{stored_classes};
-ghost use Rattle.szg_verified.specs.Verified.{AreCheckedIn, AreTrue, IsCause, IsCauseInShard, IsCaused, IsFinding, IsLoggedIn, is_whole, materials_in};
+ghost use Rattle.szg_verified.specs.Verified.{AreCheckedIn, AreTrue, IsCause, IsCauseInShard, IsCaused, IsFinding, IsLoggedIn, is_whole, materials_in, shard_count};
 ghost use Rattle.szg_verified.specs.Digests.{IsDigestOf};
 
 use crate::digests::digest_of;
@@ -183,6 +183,7 @@ pub fn verify_shard<W: Write, P: Progress>(
     requires { shard.before < shard.shards }
     ensures checked { IfOk result (λ positions. IsOk positions → IsShardChecked (tables_of (stored_classes tables.now) (stored_distances tables.now)) material.now shard.shards shard.before) }
     ensures cause { IfOk result (λ positions. IfErr positions (IsCauseInShard tables.now material.now shard.shards shard.before)) }
+    ensures counted { IfOk result (λ positions. IfOk positions (λ n. n ≡ min (shard_count material.now shard.shards shard.before) u64.MAX)) }
 {
     let from = shard_start(material, shard.shards, shard.before);
     let to = shard_start(material, shard.shards, shard.before + 1);
@@ -265,6 +266,7 @@ fn walk<P: Progress>(
     progress: &mut P,
 ) -> Result<Result<u64, Cause>, AllocError>
     ensures checked { IfOk result (λ walked. IsOk walked → IsRangeChecked (tables_of (stored_classes tables.now) (stored_distances tables.now)) material.now from to) }
+    ensures counted { IfOk result (λ walked. IfOk walked (λ positions. positions ≡ min (position_count (colored_men material.now) from to) u64.MAX)) }
     ensures cause { IfOk result (λ walked. (unverified : List Unverified) → IfErr walked (λ cause. IsCause tables.now unverified material.now from to cause)) }
 {
     let lists = ValueLists::of(alloc, tables, material, MOST_VALUES);
