@@ -11,7 +11,7 @@ use Rattle.szg_c.specs.FrontBlocks.{IsRangeOf}
 use Rattle.szg_c.specs.Fronts.{FetchReported}
 use Rattle.szg_c.specs.declared.front_blocks.RawByteRange.{RawByteRange}
 use Rattle.szg_c.specs.declared.fronts.BadBlock.{BadBlock}
-use Rattle.szg_c.specs.declared.status.TheConstants.{CHANGED, DONE}
+use Rattle.szg_c_positions.specs.declared.status.TheConstants.{CHANGED, DONE}
 
 -- what holds of a value under a condition that also holds
 pub under : {X : Type 0} (o : Option X) (P Q : X → Type 0) → IfSome o (λ x. P x → Q x) → IfSome o P → IfSome o Q

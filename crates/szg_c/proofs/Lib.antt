@@ -7,13 +7,8 @@ pub mod TableKind
 pub mod TablebaseKind
 pub mod HeldValues
 pub mod FrontBlocks
-pub mod SoundMen
-pub mod PutPositions
-pub mod TooManyMen
-pub mod MenOnBoard
 pub mod Values
 pub mod TableProbes
 pub mod LinesProbed
 pub mod Stopped
 mod Printing
-mod ReadPositions

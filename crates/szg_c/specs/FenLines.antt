@@ -2,9 +2,9 @@
 use Rattle.std.specs.Prelude.{ℕ, suc, zero, ℤ, ◌≡◌, ◌<◌, ◌==◌, Bool, List, IsSomeAnd, MatchResult, slice_get}
 use Rattle.std.specs.List.{after_first, before_first}
 use Rattle.szg_mapped.specs.InPlace.{InPlace}
-use Rattle.szg_c.specs.Fens.{fen_result}
+use Rattle.szg_c_positions.specs.Fens.{fen_result}
 use Rattle.szg_c.specs.Tablebases.{IsClassProbed}
-use Rattle.szg_c.specs.declared.status.TheConstants.{DONE, NO_RESULT}
+use Rattle.szg_c_positions.specs.declared.status.TheConstants.{DONE, NO_RESULT}
 use Rattle.szg_c.specs.declared.tablebase_calls.RawMissing.{RawMissing}
 
 -- ---- lines

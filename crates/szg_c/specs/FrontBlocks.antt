@@ -5,7 +5,7 @@ use Rattle.szg_file.specs.FrontTable.{FrontKept}
 use Rattle.szg_file.specs.Unread.{front_at}
 use Rattle.szg_file.specs.Wanted.{IsSpelledBy, wanted_block}
 use Rattle.szg_c.specs.declared.front_blocks.RawByteRange.{RawByteRange}
-use Rattle.szg_c.specs.declared.status.TheConstants.{CHANGED, DONE}
+use Rattle.szg_c_positions.specs.declared.status.TheConstants.{CHANGED, DONE}
 
 -- the range of this block in a file; without a block, offset 0 and count 0
 abbrev pub IsRangeOf : Option (List ℕ) → List ℕ → RawByteRange → Type 0

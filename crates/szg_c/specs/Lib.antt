@@ -1,6 +1,5 @@
 pub mod Reported
 pub mod Lists
-pub mod Men
 pub mod Places
 pub mod Outcomes
 pub mod Owned
@@ -8,9 +7,7 @@ pub mod Fronts
 pub mod FrontBlocks
 pub mod Texts
 pub mod Tablebases
-pub mod Fens
 pub mod FenLines
-pub mod Boards
 pub use Rattle.szg_file.specs.Held
 pub use Rattle.szg_file.specs.Values
 pub use Rattle.szg_file.specs.Opened

@@ -15,7 +15,7 @@ use Rattle.szg_place.specs.declared.PlaceFault.{PlaceFault}
 use Rattle.szg_place.specs.declared.PlaceFault.TheVariants.{OtherMaterial, Irregular, KingsTouch, WrongSide}
 use Rattle.szg_place.specs.declared.Spot.{Spot}
 use Rattle.szg_c.specs.declared.places.FoundSpot.{FoundSpot}
-use Rattle.szg_c.specs.declared.status.TheConstants.{RANGE}
+use Rattle.szg_c_positions.specs.declared.status.TheConstants.{RANGE}
 
 -- ---- statuses: 4 outside the table; 10 to 13 no index; 14 no class; 15 and 16 no distance
 

@@ -1,6 +1,5 @@
 -- What calls on a tablebase return: the probes of chess positions over the tables that were added.
-use Rattle.std.specs.Prelude.{ℕ, ℤ, ◌≡◌, ◌++◌, ◌∷◌, [], ◌&&◌, ◌⊎◌, ◌<◌, Bool, not, nat_lt, List, length, drop, map, Option, Some, None, Result, Ok, Err, IsPermutation, if◌then◌else◌}
-use Rattle.std.specs.List.{list_all}
+use Rattle.std.specs.Prelude.{ℕ, ℤ, ◌≡◌, ◌++◌, ◌∷◌, [], ◌⊎◌, ◌<◌, Bool, not, List, length, drop, map, Option, Some, None, Ok, IsPermutation}
 use Rattle.std.specs.List.Sorted.{IsNonDecreasingBy}
 use Rattle.szg_values.specs.Men.{code_of}
 use Rattle.szg_values.specs.Material.{Sides, name_of, parsed}
@@ -9,10 +8,8 @@ use Rattle.szg_values.specs.declared.Color.{Color}
 use Rattle.szg_values.specs.declared.Man.{Man}
 use Rattle.szg_place.specs.Layout.{is_dtz}
 use Rattle.szg_game.specs.declared.Class.{Class}
-use Rattle.szg_chess.specs.Position.{Position, position_fault}
+use Rattle.szg_chess.specs.Position.{Position}
 use Rattle.szg_chess.specs.Moves.{legal_moves}
-use Rattle.szg_chess.specs.declared.PositionFault.{PositionFault}
-use Rattle.szg_chess.specs.declared.PositionFault.TheVariants as fault
 use Rattle.szg_probe.specs.Probing.{MayFail, all_known, probed}
 use Rattle.szg_probe.specs.Distances.{MayFailByMove, MayFailBySearch, class_at, probed_distance, rank_of, ranked, signed_distance}
 use Rattle.szg_probe.specs.declared.assessments.RankedMove.{RankedMove}
@@ -22,12 +19,10 @@ use Rattle.szg_tables.specs.Stored.{IsMissing, number_of_class}
 use Rattle.szg_tables.specs.declared.Missing.{Missing}
 use Rattle.szg_tables.specs.declared.MissingReason.{MissingReason}
 use Rattle.szg_tables.specs.declared.MissingReason.TheVariants as reason
-use Rattle.szg_c.specs.Men.{is_coded_man, placed_man_of, color_of}
 use Rattle.szg_c.specs.Places.{place_status}
 use Rattle.szg_c.specs.Reported.{kind_of_flag}
 use Rattle.szg_c.specs.Texts.{printed}
-use Rattle.szg_c.specs.declared.men.RawMan.{RawMan}
-use Rattle.szg_c.specs.declared.status.TheConstants.{BAD_BLOCK, CHANGED, CONTRADICTION, EN_PASSANT, IN_CHECK, MAN, MEN, MISSING, NO_CLASS, PAWN_RANK, RANGE, SAME_SQUARE}
+use Rattle.szg_c_positions.specs.declared.status.TheConstants.{BAD_BLOCK, CHANGED, CONTRADICTION, MISSING, NO_CLASS, RANGE}
 use Rattle.szg_c.specs.declared.tablebase_calls.RawDistance.{RawDistance}
 use Rattle.szg_c.specs.declared.tablebase_calls.RawMissing.{RawMissing}
 use Rattle.szg_c.specs.declared.tablebase_calls.RawMove.{RawMove}
@@ -46,37 +41,6 @@ IsTableOf name dtz bytes f = (material : Sides) × (parsed name ≡ Ok material)
 -- a file was added behind the others: these bytes, opened as the table of this name and kind
 abbrev pub IsAdded : List ℕ → Bool → List ℕ → List InPlace → Option (List InPlace) → Type 0
 IsAdded name dtz bytes before after = (f : InPlace) × IsTableOf name dtz bytes f × (after ≡ Some (before ++ f ∷ []))
-
--- ---- positions
-
-abbrev pub position_status : PositionFault → ℕ
-position_status fault.Letter = MAN
-position_status fault.Rank = MAN
-position_status fault.Men = MEN
-position_status fault.Kings = MEN
-position_status fault.SameSquare = SAME_SQUARE
-position_status fault.PawnRank = PAWN_RANK
-position_status fault.SideToMove = MAN
-position_status fault.Castling = MAN
-position_status fault.EnPassant = EN_PASSANT
-position_status fault.OpponentInCheck = IN_CHECK
-position_status fault.Counters = MAN
-
-abbrev pub square_of : ℕ → Option ℕ
-square_of number = if nat_lt number 64 then Some number else None
-
-abbrev pub position_unless : Option PositionFault → Position → Result Position ℕ
-position_unless None p = Ok p
-position_unless (Some why) p = Err (position_status why)
-
-abbrev pub coded_position : List RawMan → ℕ → ℕ → Position
-coded_position men mover en_passant = record { placed_men = map placed_man_of men; mover = color_of mover; en_passant = square_of en_passant }
-
--- the position of men, a side to move and an en passant square, or the status that says why there is none
-unfoldable pub position_of : List RawMan → ℕ → ℕ → Result Position ℕ
-position_of men mover en_passant =
-    if not (nat_lt mover 2 && list_all is_coded_man men) then Err MAN else
-    position_unless (position_fault (coded_position men mover en_passant)) (coded_position men mover en_passant)
 
 -- ---- what is missing
 

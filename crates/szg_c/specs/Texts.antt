@@ -1,6 +1,6 @@
 -- The texts that C gets: the version, and the names of statuses and reasons.
 use Rattle.std.specs.Prelude.{ℕ, ◌==◌, ◌++◌, List, [], ◌∷◌, length, take, drop, min, codes, if◌then◌else◌}
-use Rattle.szg_c.specs.declared.status.TheConstants.{DONE, NAME, REFUSED, MEMORY, RANGE, CLOSED, MAN, MEN, SAME_SQUARE, PAWN_RANK, OTHER_MATERIAL, IRREGULAR, KINGS_TOUCH, WRONG_SIDE, NO_CLASS, DRAW, OUTSIDE_MAP, CHANGED, BAD_BLOCK, EN_PASSANT, IN_CHECK, MISSING, CONTRADICTION}
+use Rattle.szg_c_positions.specs.declared.status.TheConstants.{DONE, NAME, REFUSED, MEMORY, RANGE, CLOSED, MAN, MEN, SAME_SQUARE, PAWN_RANK, OTHER_MATERIAL, IRREGULAR, KINGS_TOUCH, WRONG_SIDE, NO_CLASS, DRAW, OUTSIDE_MAP, CHANGED, BAD_BLOCK, EN_PASSANT, IN_CHECK, MISSING, CONTRADICTION}
 
 -- a text as snprintf writes it to a buffer: as much of it as leaves room for a zero byte, then this byte; the rest of the
 -- buffer stays, and so does an empty buffer

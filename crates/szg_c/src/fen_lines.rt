@@ -4,12 +4,12 @@ ghost use Rattle.std.specs.List.{after_first, before_first};
 ghost use Rattle.szg_c.specs.FenLines.{AreProbed, IsProbed, is_line_feed};
 ghost use Rattle.szg_c.specs.Tablebases.{files_of};
 
-use crate::fens::said_by;
 use crate::handle::{put, take};
 use crate::held_tablebase::HeldTablebase;
-use crate::status::{DONE, NO_RESULT};
 use crate::tablebase_calls::{RawMissing, class_in};
 use std::alloc::Global;
+use szg_c_positions::said_by;
+use szg_c_positions::status::{DONE, NO_RESULT};
 use szg_tables::MappedSet;
 
 /// Probes the classes of many positions, from the tables of a tablebase: each line of a text is a position's in Forsyth-Edwards

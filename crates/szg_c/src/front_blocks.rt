@@ -10,8 +10,8 @@ ghost use Rattle.szg_c.specs.Places.{with_slot};
 use crate::fronts::{BadBlock, fetch_status, has_index};
 use crate::handle::{put, take};
 use crate::held_front::HeldFront;
-use crate::status::{BAD_BLOCK, CHANGED, CLOSED, DONE, RANGE};
 use std::alloc::Global;
+use szg_c_positions::status::{BAD_BLOCK, CHANGED, CLOSED, DONE, RANGE};
 use szg_file::{ByteRange, FrontTable};
 use szg_place::Spot;
 

@@ -1,17 +1,17 @@
 //! Calls on the placements of an opened front.
 ghost use Rattle.std.specs.Prelude.{◌≡◌, IfSome, MatchResult};
-ghost use Rattle.std.specs.declared.option.Option.TheVariants.{None, Some};
+ghost use Rattle.std.specs.declared.option.Option.TheVariants.{None};
 ghost use Rattle.szg_c.specs.Fronts.{IsOutcomeReported};
-ghost use Rattle.szg_c.specs.Men.{board_of};
+ghost use Rattle.szg_c_positions.specs.Men.{board_of};
 ghost use Rattle.szg_c.specs.Places.{IsSpot, number_result, spot_result};
 
 use crate::fronts::{BadBlock, fetch_status};
 use crate::handle::{with_held, write};
 use crate::held_front::HeldFront;
-use crate::men::RawMan;
 use crate::places::{FoundSpot, Unfound, is_class, map_status, outcome_of_men, write_spot};
-use crate::status::{DONE, RANGE};
 use std::alloc::Global;
+use szg_c_positions::RawMan;
+use szg_c_positions::status::{DONE, RANGE};
 use szg_file::{FrontTable, TableIndex};
 use szg_place::FrontBytes;
 use szg_values::Kind;

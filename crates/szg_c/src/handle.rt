@@ -6,9 +6,9 @@ ghost use Rattle.std.specs.declared.option.Option.TheVariants.{None, Some};
 
 use crate::loose::Loose;
 use crate::shared::Shared;
-use crate::status::{CLOSED, DONE, MEMORY};
 use std::alloc::{AllocError, Global};
 use std::mem::replace;
+use szg_c_positions::status::{CLOSED, DONE, MEMORY};
 
 /// A C struct with a pointer to what it owns, or with a null pointer.
 pub trait Handle: Drop {

@@ -11,8 +11,8 @@ use crate::handle::{hold, share, shut, with_held, write};
 use crate::held_table::HeldTable;
 use crate::opening::{RawAnswer, open};
 use crate::shared::Shared;
-use crate::status::{DONE, MEMORY, RANGE};
 use std::alloc::Global;
+use szg_c_positions::status::{DONE, MEMORY, RANGE};
 use szg_file::Table;
 
 /// Opens the table of this name and kind that the bytes begin with. The handle's previous table is closed.

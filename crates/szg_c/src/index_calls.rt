@@ -2,21 +2,20 @@
 ghost use Rattle.std.specs.Prelude.{◌≡◌, IfSome, MatchResult, length};
 ghost use Rattle.std.specs.declared.option.Option.TheVariants.{None};
 ghost use Rattle.szg_file.specs.Index.{index_of};
-ghost use Rattle.szg_c.specs.Men.{IsWritten, with_room};
+ghost use Rattle.szg_c_positions.specs.Men.{IsWritten, with_room};
 ghost use Rattle.szg_c.specs.Places.{placement_result};
-ghost use Rattle.szg_c.specs.declared.status.TheConstants.{CLOSED, DONE};
+ghost use Rattle.szg_c_positions.specs.declared.status.TheConstants.{CLOSED, DONE};
 
 use crate::fronts::has_index;
 use crate::handle::with_held;
 use crate::held_front::HeldFront;
 use crate::held_table::HeldTable;
-use crate::men::{RawMan, write_placement};
 use crate::places::place_status;
-use crate::status::RANGE;
 use std::alloc::Global;
+use szg_c_positions::status::RANGE;
+use szg_c_positions::{RawMan, write_placement};
 use szg_file::{FrontTable, Table, TableIndex};
 use szg_place::{Spot, placement};
-use szg_values::Placement;
 
 /// Writes the placement of an index of a part's side: the men to the beginning of `men`, their number to `count`, the
 /// side to move (White 0, Black 1) to `mover`. The name's first side is White; the side to move is the subtable's (in DTZ

@@ -7,9 +7,7 @@
 //! `szg.h` is the interface for C.
 #![tactic(auto)]
 
-mod boards;
 mod fen_lines;
-mod fens;
 mod front_blocks;
 mod front_places;
 mod fronts;
@@ -20,18 +18,15 @@ mod held_table;
 mod held_tablebase;
 mod index_calls;
 mod loose;
-mod men;
 mod opening;
 mod places;
+mod positions;
 mod shared;
-mod status;
 mod tablebase_calls;
 mod texts;
 mod whole;
 
-pub use boards::{RawBoard, RawMen, szg_board_men};
 pub use fen_lines::szg_tablebase_wdl_of_fens;
-pub use fens::{RawPosition, szg_read_fen};
 pub use front_blocks::{RawByteRange, szg_front_find, szg_front_value};
 pub use front_places::{szg_front_index, szg_front_number, szg_front_probe};
 pub use fronts::{
@@ -43,9 +38,9 @@ pub use held_front::HeldFront;
 pub use held_table::HeldTable;
 pub use held_tablebase::HeldTablebase;
 pub use index_calls::{szg_front_placement, szg_placement};
-pub use men::RawMan;
 pub use opening::RawAnswer;
 pub use places::{FoundSpot, szg_index, szg_probe};
+pub use positions::{szg_board_men, szg_read_fen};
 pub use tablebase_calls::{
     RawDistance, RawMissing, RawMove, szg_close_tablebase, szg_share_tablebase, szg_tablebase_add,
     szg_tablebase_dtz, szg_tablebase_moves, szg_tablebase_wdl,

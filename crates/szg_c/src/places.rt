@@ -2,18 +2,18 @@
 ghost use Rattle.std.specs.Prelude.{◌≡◌, Ok, IfSome, MatchResult};
 ghost use Rattle.std.specs.declared.option.Option.TheVariants.{None, Some};
 ghost use Rattle.szg_file.specs.Index.{index_of};
-ghost use Rattle.szg_c.specs.Men.{board_of};
+ghost use Rattle.szg_c_positions.specs.Men.{board_of};
 ghost use Rattle.szg_c.specs.Outcomes.{IsOutcome, IsOutcomeOfMen, class_or_status, distance_or_status, fault_or_status};
 ghost use Rattle.szg_c.specs.Places.{IsSpot, is_class, map_status as map_fault_status, outcome_result, place_status as place_fault_status, spot_result};
 
 use crate::handle::with_held;
 use crate::held_table::HeldTable;
-use crate::men::{RawMan, key_of_men, placement_or_fault, sound_men};
-use crate::status::{
-    DONE, DRAW, IRREGULAR, KINGS_TOUCH, NO_CLASS, OTHER_MATERIAL, OUTSIDE_MAP, RANGE, WRONG_SIDE,
-};
 use arrayvec::ArrayVec;
 use std::alloc::Global;
+use szg_c_positions::status::{
+    DONE, DRAW, IRREGULAR, KINGS_TOUCH, NO_CLASS, OTHER_MATERIAL, OUTSIDE_MAP, RANGE, WRONG_SIDE,
+};
+use szg_c_positions::{RawMan, key_of_men, placement_or_fault, sound_men};
 use szg_file::typed::table_fits;
 use szg_file::{MapFault, Table, TableIndex};
 use szg_place::{PlaceFault, Unprobed, Values, locate, probe_class, probe_number};

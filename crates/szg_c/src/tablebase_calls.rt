@@ -4,24 +4,24 @@ ghost use Rattle.std.specs.Prelude.{◌≡◌, ◌≤◌, ◌⊎◌, ◌++◌, [
 ghost use Rattle.std.specs.declared.option.Option.TheVariants.{None, Some};
 ghost use Rattle.szg_file.specs.Unread.{unread_file};
 ghost use Rattle.szg_c.specs.Reported.{Stops};
-ghost use Rattle.szg_c.specs.Tablebases.{IsAdded, IsClassProbed, IsDistanceProbed, IsMissingReported, IsRankedWritten, IsTableOf, files_of, position_of, position_status, promotion_code, raw_move};
+ghost use Rattle.szg_c.specs.Tablebases.{IsAdded, IsClassProbed, IsDistanceProbed, IsMissingReported, IsRankedWritten, IsTableOf, files_of, promotion_code, raw_move};
+ghost use Rattle.szg_c_positions.specs.Positions.{position_of};
 
 use crate::handle::{put, share, shut, take};
 use crate::held_tablebase::HeldTablebase;
-use crate::men::{RawMan, color_of, decoded_men, key_of_men, sound_men};
 use crate::opening::{RawAnswer, fault_status, kind_of, material_of};
 use crate::places::place_status;
-use crate::status::{
+use crate::texts::print;
+use std::alloc::Global;
+use szg_c_positions::status::{
     BAD_BLOCK, CHANGED, CONTRADICTION, DONE, EN_PASSANT, IN_CHECK, MAN, MEMORY, MEN, MISSING, NAME,
     NO_CLASS, PAWN_RANK, RANGE, SAME_SQUARE,
 };
-use crate::texts::print;
-use arrayvec::ArrayVec;
-use std::alloc::Global;
-use szg_chess::{Position, PositionFault};
+use szg_c_positions::{RawMan, position_of};
+use szg_chess::Position;
 use szg_probe::{DistanceFault, RankedMove, probe_dtz, probe_wdl, rank_moves};
 use szg_tables::{MappedSet, MappedTable, Missing, MissingReason, number_of_class};
-use szg_values::{Kind, Man, Square};
+use szg_values::{Kind, Man};
 
 /// What a tablebase does not have for a position.
 #[repr(C)]
@@ -163,63 +163,6 @@ pub extern "C" fn szg_close_tablebase(alloc: Global, tablebase: &mut HeldTableba
     ensures { tablebase.new.value ≡ None }
 {
     shut(tablebase, alloc);
-}
-
-/// Returns the position of these men with this side to move (White 0, Black 1) and the square that a pawn has just passed
-/// over by a double step (64 or more for none). Errors: the first status that applies, of `MAN` for an invalid number, `MEN`,
-/// `SAME_SQUARE`, `PAWN_RANK`, `EN_PASSANT` and `IN_CHECK`.
-#[inline(always)]
-fn position_of(men: &[RawMan], mover: u8, en_passant: u8) -> Result<Position, u32>
-    ensures { result ≡ position_of men.now mover en_passant }
-{
-    let mut placed_men = ArrayVec::new();
-    let Some(key) = key_of_men(men, mover, &mut placed_men) else {
-        return position_or_fault(men, mover, en_passant);
-    };
-    let Some(placement) = sound_men(men, mover, &placed_men, key) else {
-        return position_or_fault(men, mover, en_passant);
-    };
-    match Position::of_placed_men(&placement, Square::new(en_passant)) {
-        Ok(position) => Ok(position),
-        Err(fault) => Err(position_status(fault)),
-    }
-}
-
-/// The same, by one check of the men after the other: of bare kings too.
-#[cold]
-#[inline(never)]
-#[tactic(auto, unfolding(crate::specs::Tablebases::position_of))]
-fn position_or_fault(men: &[RawMan], mover: u8, en_passant: u8) -> Result<Position, u32>
-    ensures { result ≡ position_of men.now mover en_passant }
-{
-    match decoded_men(men, mover) {
-        Ok(placed_men) => Position::new(
-            placed_men.as_slice(),
-            color_of(mover),
-            Square::new(en_passant),
-        )
-        .map_err(position_status),
-        Err(status) => Err(status),
-    }
-}
-
-/// Returns the status for a fault of a position or of a text that names one.
-pub(crate) fn position_status(fault: PositionFault) -> u32
-    ensures { result ≡ position_status fault }
-{
-    match fault {
-        PositionFault::Men | PositionFault::Kings => MEN,
-        PositionFault::SameSquare => SAME_SQUARE,
-        PositionFault::PawnRank => PAWN_RANK,
-        PositionFault::EnPassant => EN_PASSANT,
-        PositionFault::OpponentInCheck => IN_CHECK,
-        // faults of texts
-        PositionFault::Letter
-        | PositionFault::Rank
-        | PositionFault::SideToMove
-        | PositionFault::Castling
-        | PositionFault::Counters => MAN,
-    }
 }
 
 /// Writes what is missing; returns the status.

@@ -2,7 +2,7 @@
 ghost use Rattle.std.specs.Prelude.{◌≡◌, length};
 ghost use Rattle.szg_c.specs.Texts.{printed, reason_text, status_text, version_text};
 
-use crate::status::{
+use szg_c_positions::status::{
     BAD_BLOCK, CHANGED, CLOSED, CONTRADICTION, DONE, DRAW, EN_PASSANT, IN_CHECK, IRREGULAR,
     KINGS_TOUCH, MAN, MEMORY, MEN, MISSING, NAME, NO_CLASS, OTHER_MATERIAL, OUTSIDE_MAP, PAWN_RANK,
     RANGE, REFUSED, SAME_SQUARE, WRONG_SIDE,

@@ -7,8 +7,8 @@ ghost use Rattle.szg_c.specs.Lists.{AreValuesAt, HasIndexFrom};
 
 use crate::held::values_in;
 use crate::opening::{RawAnswer, fault_status, kind_of, material_of, open};
-use crate::status::{DONE, NAME, RANGE};
 use std::alloc::Global;
+use szg_c_positions::status::{DONE, NAME, RANGE};
 use szg_file::{NoSink, Table, scan};
 use szg_io::Bytes;
 

@@ -7,7 +7,7 @@ use Rattle.szg_file.specs.declared.opened.fetching.FetchFault.{FetchFault}
 use Rattle.szg_place.specs.Probes.{IsBadAt, IsValueAt}
 use Rattle.szg_place.specs.declared.Spot.{Spot}
 use Rattle.szg_values.specs.Placement.{Board}
-use Rattle.szg_c.specs.Men.{board_of}
+use Rattle.szg_c_positions.specs.Men.{board_of}
 use Rattle.szg_c.specs.Outcomes.{IsOutcomeOfMen}
 use Rattle.szg_c.specs.declared.places.Unfound.{Unfound}
 use Rattle.szg_c.specs.declared.places.Unfound.TheVariants.{Status, Fetch}

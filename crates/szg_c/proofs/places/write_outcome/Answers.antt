@@ -6,7 +6,7 @@ use mir.Syntax.{w8}
 use Rattle.szg_file.specs.Index.{index_of}
 use Rattle.szg_place.specs.Tables.{value_at}
 use Rattle.szg_place.specs.declared.Spot.{Spot}
-use Rattle.szg_c.specs.Men.{board_of}
+use Rattle.szg_c_positions.specs.Men.{board_of}
 use Rattle.szg_c.specs.Outcomes.{IsOutcomeOfMen}
 use Rattle.szg_c.specs.Places.{outcome_result}
 use Rattle.szg_c.specs.declared.places.Unfound.{Unfound}

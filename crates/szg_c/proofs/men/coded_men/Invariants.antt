@@ -1,6 +1,0 @@
-use Rattle.std.proofs.Common.{◌≡◌, map, take}
-use Rattle.szg_c.specs.Men.{coded_man}
-use Rattle.szg_c.proofs.men.coded_men.Given as goal
-
-abbrev pub invariant-loop-kind : goal.invariant-loop-kind
-invariant-loop-kind l = l.coded.items ≡ map coded_man (take l.kind-index l.placed)

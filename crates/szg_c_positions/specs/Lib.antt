@@ -1,0 +1,4 @@
+pub mod Men
+pub mod Boards
+pub mod Positions
+pub mod Fens
