@@ -109,9 +109,10 @@ pub record IsFirstRefused (tables : StoredTables) (sides : Sides) (from to numbe
 abbrev pub IsRefusedOf : StoredTables → List Sides → ℕ → Position → Condition → Type 0
 IsRefusedOf tables materials number p c = (sides : Sides) × Contains materials sides × IsFirstRefused tables sides 0 (number_count (colored_men sides)) number p c
 
--- how many positions are checked up to a refused one: those of the materials before one of them, and those of this one up to it
+-- how many positions are checked up to a refused one, which a number places: those of the materials before its own, and those
+-- of this one up to it
 abbrev pub IsCountTo : List Sides → ℕ → Position → ℕ → Type 0
-IsCountTo materials number p positions = (i : ℕ) × (sides : Sides) × (slice_get materials i ≡ Some sides)
+IsCountTo materials number p positions = (i : ℕ) × (sides : Sides) × (slice_get materials i ≡ Some sides) × (p.placed_men ≡ placed_by number (colored_men sides))
     × (positions ≡ min (sum_by material_count (take i materials) + count_to (colored_men sides) 0 number p.mover) 18446744073709551615)
 
 -- of each position of the material an image was checked
