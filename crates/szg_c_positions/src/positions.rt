@@ -11,6 +11,7 @@ use szg_values::Square;
 /// Returns the position of these men with this side to move (White 0, Black 1) and the square that a pawn has just passed
 /// over by a double step (64 or more for none). Errors: the first status that applies, of `MAN` for an invalid number, `MEN`,
 /// `SAME_SQUARE`, `PAWN_RANK`, `EN_PASSANT` and `IN_CHECK`.
+#[inline(always)]
 pub fn position_of(men: &[RawMan], mover: u8, en_passant: u8) -> Result<Position, u32>
     ensures { result ≡ position_of men.now mover en_passant }
 {
