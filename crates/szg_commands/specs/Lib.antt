@@ -1,16 +1,2 @@
-pub mod Outcome
-pub mod Men
-pub mod Words
-pub mod Answers
-pub mod Builds
-pub mod RefusalLines
-pub mod Requests
-pub mod Refusals
-pub mod Fronts
-pub mod Jobs
-pub mod Chosen
-pub mod OnFiles
-pub mod Requested
 pub mod Statuses
-pub mod Copies
 pub mod Laws

@@ -3,9 +3,9 @@ use Rattle.std.specs.Prelude.{◌≡◌, ◌⊎◌, ℕ, nat_lt, Ok, Err, if◌t
 use Rattle.szg_archive.specs.declared.stop.CheckStop.{CheckStop}
 use Rattle.szg_archive.specs.declared.stop.CheckStop.TheVariants as check_stops
 use Rattle.szg_archive.specs.declared.stop.CheckCounts.{CheckCounts}
-use Rattle.szg_commands.specs.Outcome.{OnDone, OnRefused, status_of}
-use Rattle.szg_commands.specs.declared.on_files.Ending.{Ending}
-use Rattle.szg_commands.specs.declared.on_files.Ending.TheVariants.{Checked, Listed, Done, Refused, Failed, BadLine, Device, Memory, Words}
+use Rattle.szg_answers.specs.Outcome.{OnDone, OnRefused, status_of}
+use Rattle.szg_answers.specs.declared.on_files.Ending.{Ending}
+use Rattle.szg_answers.specs.declared.on_files.Ending.TheVariants.{Checked, Listed, Done, Refused, Failed, BadLine, Device, Memory, Words}
 
 -- of files that were checked: 1 where one is refused, else 3 where one can't be read
 abbrev pub tally_status : CheckCounts → ℕ

@@ -1,67 +1,21 @@
 //! Results of positions over folders of tables: `szg probe [--format json] FOLDER.. FEN`.
 
-use crate::outcome::Outcome;
 use crate::statuses::status_of;
 use std::alloc::Global;
 use std::io::{self, BufRead, BufReader, BufWriter, Read, Write};
 use std::process::ExitCode;
 use std::rt::Files;
+use szg_answers::Outcome;
 use szg_files::{Disk, FileSystem};
 use szg_results::{Folders, ResultStop, board_of, stop_text};
-
-/// The form of an answer.
-#[derive(Clone, Copy)]
-enum AnswerForm {
-    /// Lines for a position that is asked for alone, else one line.
-    Text,
-    /// A JSON object on one line.
-    Json,
-}
-
-/// What a command line asks of folders.
-#[derive(Clone, Copy)]
-pub struct Asked<'a> {
-    form: AnswerForm,
-    /// The folders, or tables' files.
-    folders: &'a [&'a str],
-    /// The position's text, or `-`: then each line of the input is one.
-    fen: &'a str,
-}
-
-/// Returns what a command line asks of folders: its command is `probe`, and its last word has a space, or is `-`.
-/// `--format json` may stand before the folders, or after that word. None if there is another option.
-pub(crate) fn asked_of<'a>(words: &'a [&'a str]) -> Option<Asked<'a>> {
-    let (form, rest) = form_in(words.get(1..)?.strip_prefix(&["probe"])?);
-    let (fen, folders) = rest.split_last()?;
-    if folders.is_empty() || !is_fen(fen) || folders.iter().any(|word| word.starts_with("--")) {
-        return None;
-    }
-    Some(Asked { form, folders, fen })
-}
-
-/// Returns whether a word is a position's text, or asks for the lines of the input.
-pub(crate) fn is_fen(word: &str) -> bool {
-    word == "-" || word.contains(' ')
-}
-
-/// Returns the form that words ask for, and the other words.
-fn form_in<'a>(words: &'a [&'a str]) -> (AnswerForm, &'a [&'a str]) {
-    let option: [&str; 2] = ["--format", "json"];
-    let joined: [&str; 1] = ["--format=json"];
-    let before = words.strip_prefix(&option).or(words.strip_prefix(&joined));
-    let after = words.strip_suffix(&option).or(words.strip_suffix(&joined));
-    match before.or(after) {
-        Some(rest) => (AnswerForm::Json, rest),
-        None => (AnswerForm::Text, words),
-    }
-}
+use szg_words::{AnswerForm, ProbeWords};
 
 /// Writes the results that a command line asks for, one position's on a terminal below its board. The status is 1 if a
 /// position is refused, 3 if a stream failed.
 pub(crate) fn run_results(
     rt: &(impl Eprint + AllocGlobal),
     machine: &impl Files,
-    asked: Asked<'_>,
+    asked: ProbeWords<'_>,
     is_terminal: bool,
     input: impl Read + Drop,
     output: impl Write + Drop,
@@ -84,12 +38,12 @@ pub(crate) fn outcome_of(written: io::Result<bool>) -> Outcome {
 fn write_results(
     alloc: Global,
     machine: &impl Files,
-    asked: Asked<'_>,
+    asked: ProbeWords<'_>,
     is_terminal: bool,
     input: impl Read + Drop,
     output: impl Write + Drop,
 ) -> io::Result<bool> {
-    let Asked { form, folders, fen } = asked;
+    let ProbeWords { form, folders, fen } = asked;
     let mut writer = BufWriter::new(alloc, output)?;
     let mut disk = Disk::new(alloc, machine);
     let mut folders = Folders::new(alloc, folders);

@@ -1,26 +1,23 @@
 //! A run of the program: a command line on a machine's files and on an input and an output.
 ghost use Rattle.std.specs.Prelude.{◌≡◌, IfOk, OnErr, OnOk, map, string_bytes};
 
-use crate::copying::{copies_of, run_copies};
-use crate::finding::Clap;
-use crate::meant::meant_name;
-use crate::on_files::{Ending, run_words};
-use crate::outcome::Outcome;
 use crate::progress::ReadLine;
-use crate::results::{asked_of, is_fen, run_results};
+use crate::results::run_results;
 use crate::statuses::{ending_status, status_of};
-use crate::verification::{run_verify, verification_of};
+use crate::verification::run_verify;
 use std::alloc::{AllocError, Global};
 use std::env::{self, Env};
 use std::io::{self, BufWriter, Read, Write};
 use std::process::ExitCode;
 use std::rt::Files;
 use std::time::Clock;
-use szg_archive::escaped_path;
+use szg_answers::{Ending, Outcome, run_copies, run_words};
 use szg_build::Watcher;
 use szg_files::{Disk, Lock, Monitored};
 use szg_io::{ReadAhead, Std};
+use szg_archive::escaped_path;
 use szg_verified::Progress;
+use szg_words::{Clap, assumes_win, copies_of, meant_name, probe_of, verification_of};
 
 /// The words of the command line.
 pub fn words_given(rt: &(impl Env + AllocGlobal)) -> io::Result<Vec<String>> {
@@ -70,19 +67,6 @@ fn print_meant(rt: &(impl Eprint + AllocGlobal), texts: &[&str]) {
     }
 }
 
-/// Whether the words ask a DTZ table for a placement's number, and give no class and no position's text.
-fn assumes_win(words: &[String]) -> bool {
-    let mut is_dtz = false;
-    'words: for word in words {
-        let word = word.as_str();
-        if word.starts_with("--class") || word == "wdl" || word == "--kind=wdl" || is_fen(word) {
-            return false;
-        }
-        is_dtz = is_dtz || word == "dtz" || word == "--kind=dtz" || word.ends_with(".rtbz");
-    }
-    is_dtz && words.len() > 2 && words[1].as_str() == "probe"
-}
-
 /// Prints on standard error the class for which a DTZ table is probed if the words give none.
 pub fn print_assumed_class(rt: &(impl Eprint + AllocGlobal), words: &[String]) {
     if assumes_win(words) {
@@ -109,7 +93,7 @@ where
     let Ok(texts) = texts_of(rt.alloc(), words) else {
         return status_of(rt, &Outcome::Memory);
     };
-    if let Some(asked) = asked_of(texts.as_slice()) {
+    if let Some(asked) = probe_of(texts.as_slice()) {
         return run_results(rt, machine, asked, is_terminal, input, output);
     }
     match verification_of(rt.alloc(), texts.as_slice()) {

@@ -1,14 +1,13 @@
 //! The statuses with which the program ends, and the lines on standard error that come with them.
 ghost use Rattle.std.specs.Prelude.{◌≡◌, ◌⊎◌, false, true};
 ghost use Rattle.std.specs.Process.{exit_status};
-ghost use Rattle.szg_commands.specs.Outcome.{OnDone, OnRefused, status_of};
+ghost use Rattle.szg_answers.specs.Outcome.{OnDone, OnRefused, status_of};
 ghost use Rattle.szg_commands.specs.Statuses.{HasStatus, tally_status};
 
-use crate::on_files::{Ending, FileFailure, LineKind};
-use crate::outcome::Outcome;
 use std::alloc::AllocError;
 use std::io;
 use std::process::ExitCode;
+use szg_answers::{Ending, FileFailure, LineKind, Outcome};
 use szg_archive::{CheckCounts, CheckStop, escaped_path};
 use szg_named::fault_text;
 

@@ -1,43 +1,12 @@
 //! The verification of a folder's tables: `szg verify FOLDER [NAME..] [--resume LOG] [--shard K/N]`.
 
 use crate::results::outcome_of;
-use crate::sorting::sorted_words;
 use crate::statuses::status_of;
-use std::alloc::{AllocError, Global};
 use std::io::Write;
 use std::process::ExitCode;
 use std::rt::Files;
 use szg_verified::{Progress, VerificationAsked, run_verification};
-
-/// What a command line asks to verify.
-#[derive(Drop)]
-pub struct FolderWords<'a> {
-    /// The folder, and the names of materials; none: all that the folder has.
-    words: Vec<&'a str>,
-    log: Option<&'a str>,
-    shard: Option<&'a str>,
-}
-
-/// Returns what a command line asks to verify: its command is `verify`, and after it come a folder and names, with each option
-/// at most once. None for other words.
-pub(crate) fn verification_of<'a>(
-    alloc: Global,
-    words: &'a [&'a str],
-) -> Result<Option<FolderWords<'a>>, AllocError> {
-    let Some(found) = sorted_words(alloc, words, "verify", &["--resume", "--shard"])? else {
-        return Ok(None);
-    };
-    let logs = found.values_of(alloc, "--resume")?;
-    let shards = found.values_of(alloc, "--shard")?;
-    if found.words.is_empty() || logs.len() > 1 || shards.len() > 1 {
-        return Ok(None);
-    }
-    Ok(Some(FolderWords {
-        words: found.words,
-        log: logs.first().copied(),
-        shard: shards.first().copied(),
-    }))
-}
+use szg_words::FolderWords;
 
 /// Verifies what a command line asks for, and writes a line for each material and a summary, or the line of a shard. The
 /// status is 1 unless all is verified or logged, 3 if a stream failed.

@@ -1,4 +1,4 @@
-//! Tests of the program's commands, through the public items of `szg_commands` alone: words, answers, statuses, texts, and
+//! Tests of the program's commands, through the public items of `szg_answers` and `szg_commands` alone: words, answers, statuses, texts, and
 //! devices that fail.
 #![tactic(auto)]
 

@@ -3,7 +3,7 @@ use super::fixtures::{knvk_wdl_constant, kpvk_dtz_mapped, kqvk_wdl_unpaired};
 use super::{check_line, check_printed, check_wrong_words, words_of};
 use std::alloc::{AllocError, Global};
 use std::test::Fail;
-use szg_commands::run;
+use szg_answers::run;
 use szg_io::Std;
 
 /// The dump of the constant table.

@@ -9,10 +9,11 @@ use std::process::Abort;
 use std::rt::Files;
 use std::test::Fail;
 use std::time::Clock;
+use szg_answers::{Ending, run_words};
 use szg_build::Unwatched;
-use szg_commands::{Clap, Ending, run_words};
 use szg_files::{MemoryFile, MemoryFiles};
 use szg_io::Std;
+use szg_words::Clap;
 
 /// The words of this line, on these files and with nothing on standard input, print this text.
 fn check_on_files(

@@ -13,7 +13,7 @@ use fixtures::{knvk_wdl_constant, kpvk_dtz_mapped, kqvk_wdl_unpaired};
 use std::alloc::{AllocError, Global};
 use std::process::Abort;
 use std::test::Fail;
-use szg_commands::{Outcome, run};
+use szg_answers::{Outcome, run};
 use szg_io::{Cut, Std};
 
 /// What `show` prints of the constant table.

@@ -3,7 +3,7 @@ use super::words_of;
 use std::alloc::Global;
 use std::process::Abort;
 use std::test::Fail;
-use szg_commands::{Outcome, run};
+use szg_answers::{Outcome, run};
 use szg_io::Std;
 
 /// The help of `get`.

@@ -1,0 +1,14 @@
+pub mod Outcome
+pub mod Men
+pub mod Answers
+pub mod Builds
+pub mod RefusalLines
+pub mod Requests
+pub mod Refusals
+pub mod Fronts
+pub mod OnFiles
+pub mod Copies
+pub use Rattle.szg_words.specs.Chosen
+pub use Rattle.szg_words.specs.Jobs
+pub use Rattle.szg_words.specs.Requested
+pub use Rattle.szg_words.specs.Words

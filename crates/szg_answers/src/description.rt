@@ -1,0 +1,196 @@
+ghost use Rattle.std.specs.Prelude.{◌≡◌, ◌+◌, ℕ, List, ◌++◌, IfOk, map, length, string_bytes};
+ghost use Rattle.szg_file.specs.Held.{file_bytes, map_of};
+ghost use Rattle.szg_file.specs.Values.{lists_of};
+ghost use Rattle.szg_answers.specs.Answers.{front_lines, kind_word};
+
+use crate::placements::{PARTS, part_letter};
+use std::alloc::{AllocError, Global};
+use szg_block::Sub;
+use szg_file::{FrontTable, Map, PartBytes, Slot, Table, TableIndex, constant_value, file_len};
+use szg_values::{Kind, Material};
+
+/// What is described of a table after its name, its kind and its file's length.
+#[derive(Drop)]
+struct Described<'a> {
+    index: &'a TableIndex,
+    byte4: u8,
+    // in file order
+    subs: Vec<&'a Sub>,
+    // the last sixteen bytes
+    last: &'a [u8],
+}
+
+/// What `show` prints of a table: all that it holds but its values, a line each.
+pub(crate) fn table_description(alloc: Global, table: &Table) -> Result<String, AllocError>
+    ensures { IfOk result (λ text. (rest : List ℕ) × (string_bytes text ≡ front_lines table.now.contents.material table.now.contents.kind (length (file_bytes table.now)) ++ rest)) }
+{
+    let front = front_lines(alloc, table.material(), table.kind(), file_len(table))?;
+    let described = Described {
+        index: table.index(),
+        byte4: table.byte4(),
+        subs: subs_of_table(alloc, table)?,
+        last: table.last().as_slice(),
+    };
+    let rest = other_lines(alloc, &described)?;
+    format!(in alloc; "{front}{rest}")
+}
+
+/// What `show` prints of a table that was opened by its front; `last` are the last bytes of its file.
+pub(crate) fn front_description(
+    alloc: Global,
+    table: &FrontTable,
+    last: &[u8],
+) -> Result<String, AllocError>
+    ensures { IfOk result (λ text. (rest : List ℕ) × (string_bytes text ≡ front_lines table.now.index.material table.now.index.kind (table.now.ending + 16) ++ rest)) }
+{
+    let index = table.index();
+    let length = table.ending() + 16;
+    let front = front_lines(alloc, index.material(), index.kind(), length)?;
+    let described = Described {
+        index,
+        byte4: table.byte4(),
+        subs: subs_of_front(alloc, table)?,
+        last,
+    };
+    let rest = other_lines(alloc, &described)?;
+    format!(in alloc; "{front}{rest}")
+}
+
+/// The subtables of a table, in file order.
+fn subs_of_table<'a>(alloc: Global, table: &'a Table) -> Result<Vec<&'a Sub>, AllocError> {
+    let mut subs = Vec::new(alloc);
+    'slots: for slot in table.index().slots() {
+        if let Some(sub) = table.sub(slot.part, slot.side) {
+            subs.push(sub)?;
+        }
+    }
+    Ok(subs)
+}
+
+/// The subtables of a table that was opened by its front, in file order.
+fn subs_of_front<'a>(alloc: Global, table: &'a FrontTable) -> Result<Vec<&'a Sub>, AllocError> {
+    let mut subs = Vec::new(alloc);
+    'subtables: for placed in table.subs() {
+        subs.push(&placed.sub)?;
+    }
+    Ok(subs)
+}
+
+/// A table's name, its kind and its file's length, a line each.
+fn front_lines(
+    alloc: Global,
+    material: &Material,
+    kind: Kind,
+    length: u64,
+) -> Result<String, AllocError>
+    ensures { IfOk result (λ text. string_bytes text ≡ front_lines material.now kind length) }
+{
+    let name = material.name();
+    let name = name.as_str();
+    let kind = kind_word(kind);
+    format!(in alloc; "name {name}\nkind {kind}\nbytes {length}\n")
+}
+
+/// A kind's word.
+fn kind_word(kind: Kind) -> &'static str
+    ensures { result.now ≡ kind_word kind }
+{
+    match kind {
+        Kind::Wdl => "wdl",
+        Kind::Dtz => "dtz",
+    }
+}
+
+/// The lines after the file's length.
+fn other_lines(alloc: Global, table: &Described) -> Result<String, AllocError> {
+    let mut text = String::new(alloc);
+    writeln!(text, "flags {}", table.byte4)?;
+    add_parts(alloc, table.index.parts(), &mut text)?;
+    add_subtables(table, &mut text)?;
+    writeln!(text, "end {}", hex::encode(alloc, table.last)?)?;
+    Ok(text)
+}
+
+/// A line for each part.
+fn add_parts(alloc: Global, parts: &[PartBytes], text: &mut String) -> Result<(), AllocError> {
+    'parts: for (part, letter) in parts.iter().zip(PARTS.iter()) {
+        let order = hex::encode(alloc, part.order.as_slice())?;
+        let men = hex::encode(alloc, part.men.as_slice())?;
+        writeln!(text, "part {letter} order {order} men {men}")?;
+    }
+    Ok(())
+}
+
+/// A line for each subtable, and one for each map after its part's first.
+fn add_subtables(table: &Described, text: &mut String) -> Result<(), AllocError> {
+    let index = table.index;
+    'subtables: for (slot, sub) in index.slots().iter().zip(table.subs.iter()) {
+        add_subtable(index.kind(), slot, sub, text)?;
+        if slot.side == 0 {
+            add_map(index.maps(), slot.part, text)?;
+        }
+    }
+    Ok(())
+}
+
+/// A subtable's line.
+fn add_subtable(kind: Kind, slot: &Slot, sub: &Sub, text: &mut String) -> Result<(), AllocError> {
+    let Slot { part, side, size } = *slot;
+    let letter = part_letter(part);
+    match sub {
+        Sub::Constant { flags, .. } => {
+            let value = constant_value(kind, sub);
+            writeln!(text, "sub {letter} {side} flags {flags} constant {value}")
+        }
+        Sub::Pairs {
+            flags,
+            block_bits,
+            span_bits,
+            extra,
+            blocks,
+            code,
+            dict,
+            ..
+        } => {
+            let min = code.min();
+            let max = code.max();
+            let symbols = dict.symbols();
+            write!(
+                text,
+                "sub {letter} {side} flags {flags} size {size} block {block_bits} span {span_bits} "
+            )?;
+            writeln!(
+                text,
+                "extra {extra} blocks {blocks} min {min} max {max} symbols {symbols}"
+            )
+        }
+    }
+}
+
+/// A mapped part's line: how many items each list has.
+fn add_map(maps: &[Option<Map>], part: u8, text: &mut String) -> Result<(), AllocError> {
+    let Some(Some(lists)) = maps.get(part as usize) else {
+        return Ok(());
+    };
+    let [wins, losses, cursed, blessed] = counts_of(lists);
+    let letter = part_letter(part);
+    writeln!(text, "map {letter} {wins} {losses} {cursed} {blessed}")
+}
+
+/// How many items each list of a map has.
+fn counts_of(lists: &Map) -> [usize; 4]
+    ensures { result ≡ map length (lists_of (map_of lists.now)) }
+{
+    match lists {
+        Map::Bytes(lists) => lengths_of(lists),
+        Map::Wide(lists) => lengths_of(lists),
+    }
+}
+
+/// How many items each of four lists has.
+fn lengths_of<T>(lists: &[Vec<T>; 4]) -> [usize; 4]
+    ensures { result ≡ map length (map (λ list. list.items) lists.now) }
+{
+    let [a, b, c, d] = lists;
+    [a.len(), b.len(), c.len(), d.len()]
+}

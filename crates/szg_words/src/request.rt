@@ -1,0 +1,484 @@
+ghost use Rattle.std.specs.Prelude.{◌≡◌, ◌⊎◌, true, false, IfErr, IfOk, IsNone, MatchOption, Some, codes, map, option_map};
+ghost use Rattle.clap.specs.Matches.{first_value, found_of};
+ghost use Rattle.clap.specs.Values.{kind_of as kind_of_error};
+ghost use Rattle.szg_words.specs.Requested.{IsActionOf, IsActionOnMen, IsLookUp, IsPlanIn, IsTaskIn, action_of_men, parsed_action, parsed_look_up, names_men};
+ghost use Rattle.szg_words.specs.Chosen.{AsksFor, AsksForNone, is_number, line_of, has_numbers, has_sizes, has_table_numbers, has_unused, is_given as is_typed};
+ghost use Rattle.szg_words.specs.Words.{is_word, number_of_class, number_of_form, parsed_class, parsed_form, parsed_kind, parsed_mover, parsed_part, parsed_side};
+
+use crate::arguments::{Argument, BLOCK, FORM, INDEX, ROUNDS, SIDE, SPAN};
+use crate::command_line::{CommandForm, command_of, program};
+use crate::finding::Finder;
+use crate::men::{MenFault, placement_in};
+use crate::numbers::number_of;
+use clap::error::ErrorKind;
+use clap::parser::ValueSource;
+use clap::{ArgMatches, Error};
+use std::alloc::{AllocError, Global};
+use szg_values::{Color, Kind, Placement};
+
+/// The class of a placement for the side to move.
+#[derive(Clone, Copy)]
+pub enum AskedClass {
+    Win,
+    Cursed,
+    Draw,
+    Blessed,
+    Loss,
+}
+
+impl AskedClass {
+    /// The class's number: 2 for a win, 1 for a cursed win, 0, -1 and -2.
+    pub fn number(self) -> i8
+        ensures { result ≡ number_of_class self }
+    {
+        match self {
+            AskedClass::Win => 2,
+            AskedClass::Cursed => 1,
+            AskedClass::Draw => 0,
+            AskedClass::Blessed => -1,
+            AskedClass::Loss => -2,
+        }
+    }
+}
+
+/// The form of a dump.
+#[derive(Clone, Copy)]
+pub enum DumpForm {
+    /// A line for each value.
+    Values,
+    /// A line for each maximal run of equal values.
+    Runs,
+}
+
+impl DumpForm {
+    /// The form's number in a dump's first line: 1 or 2.
+    pub fn number(self) -> u8
+        ensures number { result ≡ number_of_form self }
+        ensures known { (result ≡ 1) ⊎ (result ≡ 2) }
+    {
+        match self {
+            DumpForm::Values => 1,
+            DumpForm::Runs => 2,
+        }
+    }
+}
+
+/// What is asked of a table.
+#[derive(Drop)]
+pub enum Action {
+    Check,
+    Show,
+    Get(u64),
+    /// The value at an index, and the steps by which it is found.
+    GetCounted(u64),
+    Values,
+    Copy,
+    /// The table as text.
+    Dump(DumpForm),
+    /// The index of a placement.
+    Index(Placement),
+    /// The value of a placement, in a DTZ table in a class.
+    Probe(Placement, AskedClass),
+    /// The placement of an index.
+    Placement(u64),
+    /// The words are no placement's.
+    Unplaced(MenFault),
+}
+
+impl Action {
+    /// Returns whether it is a look-up: it needs a table's front, and at most one block or the last bytes.
+    pub fn is_look_up(&self) -> bool
+        ensures yes { (result ≡ true) → IsLookUp self.now }
+        ensures no { (result ≡ false) → IsLookUp self.now → ⊥ }
+    {
+        matches!(
+            self,
+            Action::Show | Action::Get(_) | Action::Index(_) | Action::Probe(..)
+        )
+    }
+}
+
+/// How a table is to be packed.
+#[derive(Clone, Copy)]
+pub enum BuildPlan {
+    /// With these numbers: a block has 2^block_bits bytes, an entry of the sparse index covers 2^span_bits values, and a
+    /// dictionary gets at most `rounds` pairs.
+    Fixed {
+        block_bits: u8,
+        span_bits: u8,
+        rounds: u32,
+    },
+    /// So that it takes few bytes.
+    Small,
+}
+
+/// What a command line asks for.
+#[derive(Drop)]
+pub enum Task<'a> {
+    /// Something of a table.
+    OnTable(Request<'a>),
+    /// A table's file, built of a dump.
+    Build(BuildPlan),
+}
+
+/// A command with its words: the table's name and kind, and a part and side where one is asked for.
+#[derive(Drop)]
+pub struct Request<'a> {
+    pub name: &'a str,
+    pub kind: Kind,
+    pub part: u8,
+    pub side: u8,
+    pub action: Action,
+}
+
+/// The program's name, where no word is given.
+static ALONE: [&str; 1] = ["szg"];
+
+/// What a command line on the standard streams asks for. Which word is which argument's value, the finder decides: the
+/// task is that of the command and the values that it finds.
+pub fn parse<'a, F: Finder>(
+    alloc: Global,
+    finder: &F,
+    words: &'a [&'a str],
+) -> Result<Task<'a>, Error>
+    ensures queried { IfOk result (AsksFor F.finds (map (λ word. word.now) words.now)) }
+    ensures none { IfErr result (λ error. (kind_of_error error ≡ ErrorKind.OutOfMemory) ⊎ AsksForNone F.finds F.refuses (map (λ word. word.now) words.now)) }
+{
+    let words = line_of(words);
+    let form = CommandForm::Streams;
+    let matches = finder.find(alloc, words, form)?;
+    let Some((command, chosen)) = matches.subcommand() else {
+        return Err(missing_command(alloc, form)?);
+    };
+    if let Some(argument) = unused_by_plan(chosen) {
+        return Err(words_error(alloc, command, form, WordsFault::Unused(argument))?);
+    }
+    match task_in(command, chosen) {
+        Ok(task) => Ok(task),
+        Err(fault) => Err(words_error(alloc, command, form, fault)?),
+    }
+}
+
+/// The words, or the program's name if there is none.
+fn line_of<'a>(words: &'a [&'a str]) -> &'a [&'a str]
+    ensures { map (λ word. word.now) result.now ≡ line_of (map (λ word. word.now) words.now) }
+{
+    if words.is_empty() { &ALONE } else { words }
+}
+
+/// The error of words that have no command.
+pub(crate) fn missing_command(alloc: Global, form: CommandForm) -> Result<Error, AllocError> {
+    program(alloc, form)?.error(ErrorKind::MissingSubcommand, "a command is missing")
+}
+
+/// Why the words of a command ask for nothing.
+#[derive(Clone, Copy)]
+pub enum WordsFault<'a> {
+    /// A word is none of its argument's numbers.
+    Number { argument: Argument, word: &'a str },
+    /// A small plan doesn't take this number.
+    Unused(Argument),
+    /// The file's ending names no kind, and none is given.
+    Kind,
+    /// A word is no shard.
+    Shard(&'a str),
+    /// A growth was refused.
+    Memory,
+}
+
+/// Creates the error of a command's words that ask for nothing.
+pub(crate) fn words_error(
+    alloc: Global,
+    command: &str,
+    form: CommandForm,
+    fault: WordsFault<'_>,
+) -> Result<Error, AllocError>
+    ensures { fault.entry ≡ WordsFault.Memory → IfOk result (λ error. ⊥) }
+{
+    let (kind, message) = match fault {
+        WordsFault::Number { argument, word } => {
+            let shown = argument.shown(alloc)?;
+            let Argument {
+                least,
+                greatest,
+                ..
+            } = argument;
+            let message = format!(in alloc;
+                "invalid value '{word}' for '{shown}': not a number from {least} to {greatest}"
+            )?;
+            (ErrorKind::ValueValidation, message)
+        }
+        WordsFault::Unused(argument) => {
+            let shown = argument.shown(alloc)?;
+            let message = format!(in alloc;
+                "the argument '--plan small' cannot be used with '{shown}'"
+            )?;
+            (ErrorKind::ArgumentConflict, message)
+        }
+        WordsFault::Kind => {
+            let message = String::from_str(
+                alloc,
+                "the file's ending is neither .rtbw nor .rtbz: give its kind by '--kind <KIND>'",
+            )?;
+            (ErrorKind::MissingRequiredArgument, message)
+        }
+        WordsFault::Shard(word) => {
+            let message = format!(in alloc;
+                "invalid value '{word}' for '--shard <K/N>': not a number K from 1 to N, a slash and N"
+            )?;
+            (ErrorKind::ValueValidation, message)
+        }
+        WordsFault::Memory => return Err(AllocError),
+    };
+    usage_error(alloc, command, form, kind, message.as_str())
+}
+
+/// Whether the words ask for a small plan.
+fn is_small(chosen: &ArgMatches<'_>) -> bool
+    ensures { result ≡ is_word (first_value (found_of chosen.now) (codes "plan")) (codes "small") }
+{
+    is_given(chosen.get_str("plan"), "small")
+}
+
+/// Whether there is this word.
+pub(crate) fn is_given(given: Option<&str>, word: &str) -> bool
+    ensures { result ≡ is_word (option_map (λ text. text.now) given.entry) word.now }
+{
+    match given {
+        Some(text) => text == word,
+        None => false,
+    }
+}
+
+/// Whether an argument's value is among the words, and no default.
+fn is_typed(chosen: &ArgMatches<'_>, argument: &str) -> bool
+    ensures { result ≡ is_typed (found_of chosen.now) argument.now }
+{
+    matches!(
+        chosen.value_source(argument),
+        Some(ValueSource::CommandLine)
+    )
+}
+
+/// Returns the first number of a fixed plan that is given with a small plan.
+pub(crate) fn unused_by_plan(chosen: &ArgMatches<'_>) -> Option<Argument>
+    ensures { MatchOption result (has_unused (found_of chosen.now) ≡ false) (λ argument. has_unused (found_of chosen.now) ≡ true) }
+{
+    if !is_small(chosen) {
+        return None;
+    }
+    if is_typed(chosen, "block") {
+        return Some(BLOCK);
+    }
+    if is_typed(chosen, "span") {
+        return Some(SPAN);
+    }
+    if is_typed(chosen, "rounds") {
+        return Some(ROUNDS);
+    }
+    None
+}
+
+/// An error with the usage of a command.
+pub(crate) fn usage_error(
+    alloc: Global,
+    command: &str,
+    form: CommandForm,
+    kind: ErrorKind,
+    message: &str,
+) -> Result<Error, AllocError> {
+    let name = format!(in alloc; "szg {command}")?;
+    let mut command = command_of(alloc, command, form)?.bin_name(name.as_str())?;
+    command.error(kind, message)
+}
+
+/// The task that a command and its words make.
+fn task_in<'a>(command: &str, chosen: &ArgMatches<'a>) -> Result<Task<'a>, WordsFault<'a>>
+    ensures task { IfOk result (IsTaskIn command.now (found_of chosen.now)) }
+    ensures none { IfErr result (λ fault. (is_number fault ≡ true) × (has_numbers command.now (found_of chosen.now) ≡ false)) }
+{
+    if command == "build" {
+        return Ok(Task::Build(plan_in(chosen)?));
+    }
+    let name = chosen.get_str("NAME").unwrap_or("");
+    let kind = kind_of(chosen.get_str("KIND"));
+    Ok(Task::OnTable(request_on(command, chosen, name, kind)?))
+}
+
+/// Returns how the words ask to pack a table.
+pub fn plan_in<'a>(chosen: &ArgMatches<'a>) -> Result<BuildPlan, WordsFault<'a>>
+    ensures plan { IfOk result (IsPlanIn (found_of chosen.now)) }
+    ensures none { IfErr result (λ fault. (is_number fault ≡ true) × (is_word (first_value (found_of chosen.now) (codes "plan")) (codes "small") ≡ false) × (has_sizes (found_of chosen.now) ≡ false)) }
+{
+    if is_small(chosen) {
+        return Ok(BuildPlan::Small);
+    }
+    Ok(BuildPlan::Fixed {
+        block_bits: number_of(chosen, BLOCK)? as u8,
+        span_bits: number_of(chosen, SPAN)? as u8,
+        rounds: number_of(chosen, ROUNDS)? as u32,
+    })
+}
+
+/// What is asked of a table of this name and kind.
+pub(crate) fn request_on<'a>(
+    command: &str,
+    chosen: &ArgMatches<'a>,
+    name: &'a str,
+    kind: Kind,
+) -> Result<Request<'a>, WordsFault<'a>>
+    ensures name { IfOk result (λ request. request.name.now ≡ name.now) }
+    ensures kind { IfOk result (λ request. request.kind ≡ kind) }
+    ensures part { IfOk result (λ request. request.part ≡ parsed_part (first_value (found_of chosen.now) (codes "part"))) }
+    ensures side { IfOk result (λ request. parsed_side command.now (found_of chosen.now) ≡ Some request.side) }
+    ensures action { IfOk result (λ request. IsActionOf command.now (found_of chosen.now) request.action) }
+    ensures none { IfErr result (λ fault. (is_number fault ≡ true) × (has_table_numbers command.now (found_of chosen.now) ≡ false)) }
+{
+    let action = action_in(command, chosen)?;
+    let side = side_in(command, chosen)?;
+    Ok(Request {
+        name,
+        kind,
+        part: part_of(chosen.get_str("part")),
+        side,
+        action,
+    })
+}
+
+/// The side that is asked, 0 for a command that asks for none.
+fn side_in<'a>(command: &str, chosen: &ArgMatches<'a>) -> Result<u8, WordsFault<'a>>
+    ensures side { IfOk result (λ side. parsed_side command.now (found_of chosen.now) ≡ Some side) }
+    ensures none { IfErr result (λ fault. (is_number fault ≡ true) × IsNone (parsed_side command.now (found_of chosen.now))) }
+{
+    match command {
+        "get" | "values" | "placement" => Ok(number_of(chosen, SIDE)? as u8),
+        _ => Ok(0),
+    }
+}
+
+/// What a command asks of a table.
+fn action_in<'a>(command: &str, chosen: &ArgMatches<'a>) -> Result<Action, WordsFault<'a>>
+    ensures action { IfOk result (IsActionOf command.now (found_of chosen.now)) }
+    ensures none { IfErr result (λ fault. (is_number fault ≡ true) × (names_men command.now ≡ false) × IsNone (parsed_action command.now (found_of chosen.now))) }
+{
+    if names_men(command) {
+        return Ok(action_on_men(command, chosen));
+    }
+    action_without_men(command, chosen)
+}
+
+/// Whether a command is asked of a placement's men.
+fn names_men(command: &str) -> bool
+    ensures { result ≡ names_men command.now }
+{
+    command == "index" || command == "probe"
+}
+
+/// What a command asks of a table, where it names no men.
+fn action_without_men<'a>(command: &str, chosen: &ArgMatches<'a>) -> Result<Action, WordsFault<'a>>
+    ensures action { IfOk result (λ action. parsed_action command.now (found_of chosen.now) ≡ Some action) }
+    ensures none { IfErr result (λ fault. (is_number fault ≡ true) × IsNone (parsed_action command.now (found_of chosen.now))) }
+{
+    Ok(match command {
+        "check" => Action::Check,
+        "show" => Action::Show,
+        "get" => look_up(number_of(chosen, INDEX)?, chosen),
+        "values" => Action::Values,
+        "placement" => Action::Placement(number_of(chosen, INDEX)?),
+        "dump" => Action::Dump(form_of(number_of(chosen, FORM)?)),
+        _ => Action::Copy,
+    })
+}
+
+/// What is asked of an index: the value alone, or also the steps to it.
+fn look_up(index: u64, chosen: &ArgMatches<'_>) -> Action
+    ensures { result ≡ parsed_look_up (found_of chosen.now) index }
+{
+    if is_given(chosen.get_str("steps"), "true") {
+        Action::GetCounted(index)
+    } else {
+        Action::Get(index)
+    }
+}
+
+/// What is asked of the placement of the words, or why they are none.
+fn action_on_men(command: &str, chosen: &ArgMatches<'_>) -> Action
+    ensures { IsActionOnMen command.now (found_of chosen.now) result }
+{
+    let mover = mover_of(chosen.get_str("MOVER"));
+    let class = class_of(chosen.get_str("class"));
+    let men = chosen.get_strs("MAN").unwrap_or(&[]);
+    let placement = placement_in(men, mover);
+    action_of_men(command == "index", placement, class)
+}
+
+/// What is asked of a placement, or why there is none.
+fn action_of_men(
+    is_index: bool,
+    placement: Result<Placement, MenFault>,
+    class: AskedClass,
+) -> Action
+    ensures { result ≡ action_of_men is_index placement class }
+{
+    match placement {
+        Ok(placement) if is_index => Action::Index(placement),
+        Ok(placement) => Action::Probe(placement, class),
+        Err(fault) => Action::Unplaced(fault),
+    }
+}
+
+/// The kind of a word.
+pub fn kind_of(word: Option<&str>) -> Kind
+    ensures { result ≡ parsed_kind (option_map (λ text. text.now) word.entry) }
+{
+    match word {
+        Some("wdl") => Kind::Wdl,
+        _ => Kind::Dtz,
+    }
+}
+
+/// The form of a number.
+fn form_of(number: u64) -> DumpForm
+    ensures { result ≡ parsed_form number }
+{
+    if number == 1 {
+        DumpForm::Values
+    } else {
+        DumpForm::Runs
+    }
+}
+
+/// The mover of a word.
+fn mover_of(word: Option<&str>) -> Color
+    ensures { result ≡ parsed_mover (option_map (λ text. text.now) word.entry) }
+{
+    match word {
+        Some("w") => Color::White,
+        _ => Color::Black,
+    }
+}
+
+/// The class of a word; a win where there is none.
+fn class_of(word: Option<&str>) -> AskedClass
+    ensures { result ≡ parsed_class (option_map (λ text. text.now) word.entry) }
+{
+    match word {
+        Some("cursed") => AskedClass::Cursed,
+        Some("draw") => AskedClass::Draw,
+        Some("blessed") => AskedClass::Blessed,
+        Some("loss") => AskedClass::Loss,
+        _ => AskedClass::Win,
+    }
+}
+
+/// The part of a letter; a where there is none.
+fn part_of(letter: Option<&str>) -> u8
+    ensures { result ≡ parsed_part (option_map (λ text. text.now) letter.entry) }
+{
+    match letter {
+        Some("b") => 1,
+        Some("c") => 2,
+        Some("d") => 3,
+        _ => 0,
+    }
+}
