@@ -11,7 +11,6 @@ use Rattle.szg_build.specs.declared.BuildFault.{BuildFault}
 use Rattle.szg_build.specs.declared.BuildFault.TheVariants as builds
 use Rattle.szg_build.specs.declared.dump.DumpFault.{DumpFault}
 use Rattle.szg_build.specs.declared.dump.DumpFault.TheVariants as dumps
-use Rattle.szg_words.specs.declared.men.MenFault.{MenFault}
 use Rattle.szg_words.specs.declared.men.MenFault.TheVariants as men
 use Rattle.szg_answers.specs.declared.refusal.Refusal.{Refusal}
 use Rattle.szg_answers.specs.declared.refusal.Refusal.TheVariants as why
