@@ -10,7 +10,7 @@ use Rattle.szg_pairs.proofs.Accepting.{symbol_of_dictionary}
 use Rattle.szg_block.specs.Layout.{Layout, SparseEntry}
 use Rattle.szg_block.specs.Block.{start, needed, block_at}
 use Rattle.szg_block.specs.Expansion.{joined_values}
-use Rattle.szg_block.specs.Sound.{entry_count, middle_of_span, IsShapedLayout, IsSoundLayout, IsGoodEntry}
+use Rattle.szg_block.specs.Sound.{entry_count, middle_of_span, IsSoundLayout, IsGoodEntry}
 use Rattle.szg_block.proofs.Values.{start-step, start-zero}
 use Rattle.szg_block.specs.Subtable.{layout_from}
 use Rattle.szg_block.specs.declared.Sub.{Sub}

@@ -7,7 +7,6 @@ use Rattle.szg_block.specs.Block.{start}
 use Rattle.szg_block.specs.Sound.{middle_of_span}
 use Rattle.szg_block.proofs.Values.{start-more}
 use Rattle.szg_subtable.specs.Building.{IsEntryOf, IsIndexOf}
-use Rattle.szg_subtable.proofs.Pairs.LeafLaws.{all_push}
 
 pub middle-is : (span_bits j span : ℕ) → span ≡ 2 ^ span_bits → j * span + span / 2 ≡ middle_of_span span_bits j
 unfolding middle_of_span

@@ -9,7 +9,7 @@ use Rattle.szg_subtable.specs.Building.{entry_of, AreLens, IsCandidate, IsRound,
 use Rattle.szg_subtable.proofs.Pairs.Tests.{bool_cases}
 use Rattle.szg_subtable.proofs.Pairs.PairingLaws.{pair_count-later}
 use Rattle.szg_subtable.proofs.Pairs.Triples.{entry-left, entry-right, entry-pair}
-use Rattle.szg_subtable.proofs.Pairs.LeafLaws.{all_push, get_or-last, get_or-front}
+use Rattle.szg_subtable.proofs.Pairs.LeafLaws.{get_or-last, get_or-front}
 use Rattle.szg_subtable.proofs.Pairs.Growing.{IsNewPair, pair_grows, expansion-more, expansion-new, round_keeps_values, round_keeps_use, round_makes_one, round_keeps_names}
 
 -- ---- pairs that occur

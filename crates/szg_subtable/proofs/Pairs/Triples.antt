@@ -1,5 +1,5 @@
 -- The three bytes of an entry: a leaf of a value, or a pair of two symbols.
-use Rattle.std.proofs.Common.{ℕ, ◌≡◌, ◌+◌, ◌*◌, ◌/◌, ◌%◌, ◌<◌, true, false, arith}
+use Rattle.std.proofs.Common.{ℕ, ◌≡◌, ◌<◌, true, false, arith}
 use Rattle.std.proofs.lemmas.Bool.{eq-eqb, ne_eqb}
 use Rattle.szg_pairs.specs.Entry.{left_of, right_of, is_leaf}
 use Rattle.szg_subtable.specs.Building.{entry_of}

@@ -1,7 +1,6 @@
 use Rattle.std.proofs.Common.{refl, sym, subst}
 use Rattle.std.specs.Prelude.{IfOk}
 use Rattle.szg_subtable.specs.declared.building.Choice.{Choice}
-use Rattle.szg_subtable.specs.declared.building.Choice.TheVariants.{Fixed, Small}
 use Rattle.szg_subtable.specs.PackedSubtable.{IsInBounds, IsPackedSub}
 use Rattle.szg_subtable.proofs.Builders.MadeLaws.{fixed_is_packed, small_is_packed, if_both}
 use Rattle.szg_subtable.proofs.building.pack.Goals as goal
