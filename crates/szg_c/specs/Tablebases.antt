@@ -1,5 +1,5 @@
 -- What calls on a tablebase return: the probes of chess positions over the tables that were added.
-use Rattle.std.specs.Prelude.{ℕ, ℤ, ◌≡◌, ◌++◌, ◌∷◌, [], ◌⊎◌, ◌<◌, Bool, not, List, length, drop, map, Option, Some, None, Ok, IsPermutation}
+use Rattle.std.specs.Prelude.{ℕ, ℤ, ◌≡◌, ◌++◌, ◌∷◌, [], ◌⊎◌, ◌<◌, Bool, List, length, drop, map, Option, Some, None, Ok, IsPermutation}
 use Rattle.std.specs.List.Sorted.{IsNonDecreasingBy}
 use Rattle.szg_values.specs.Men.{code_of}
 use Rattle.szg_values.specs.Material.{Sides, name_of, parsed}
