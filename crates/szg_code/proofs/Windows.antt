@@ -14,7 +14,7 @@ use Rattle.szg_code.specs.Window.{padded, IsWindow, HoldsBits}
 use Rattle.szg_code.proofs.Numbers.{number-append, number-below, number-bits_of_number, mod-small, number-zeros}
 use Rattle.szg_code.proofs.Reading.{number-take, reaches-shifted_base, shifted_base-reaches, least_length_of_window, no_base_of_window}
 use Rattle.szg_code.proofs.Prefixes.{symbol_of_prefix-is}
-use Rattle.szg_code.proofs.ByteBits.{bits-cons, bits-nil, drop-bits, length-left}
+use Rattle.szg_code.proofs.ByteBits.{bits-cons, bits-nil, drop-bits}
 
 -- ---- padded prefixes
 
