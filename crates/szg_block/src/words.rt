@@ -11,7 +11,7 @@ ghost use Rattle.szg_code.specs.Spelling.{BeginsWithNoWord};
 ghost use Rattle.szg_block.specs.Spelled.{AreSymbols, values_of, values_spelled, word_at, pairs_above};
 
 use std::alloc::AllocError;
-use szg_code::{Code, NextWords, WordReader, next_word, next_word_if, next_words};
+use szg_code::{Code, NextWords, Bits, next_word, next_word_if, next_words};
 use szg_pairs::Dict;
 use szg_pairs::entry::{is_leaf, left, right};
 
@@ -22,7 +22,7 @@ pub fn spells(code: &Code, dict: &Dict, block: &[u8], needed: u64) -> bool
     requires size { length block.now ≤ 2 ^ 60 }
     ensures { IsTrue result ↔ (needed ≤ length (values_spelled code.now dict.now (bits block.now))) }
 {
-    spells_on(code, dict, WordReader::new(block), needed)
+    spells_on(code, dict, Bits::new(block), needed)
 }
 
 /// Returns the number of values of one or two words.
@@ -68,7 +68,7 @@ struct Reached<'a> {
     /// The value's index among them.
     index: u64,
     /// The reader, moved past these words.
-    left: WordReader<'a>,
+    left: Bits<'a>,
 }
 
 /// Decodes one word, or if `TWO`, one or two; moves the reader past what it decoded, and returns the symbols. None if the
@@ -76,7 +76,7 @@ struct Reached<'a> {
 #[inline(always)]
 fn step<const TWO: bool, const TABLE: bool>(
     code: &Code,
-    words: &mut WordReader,
+    words: &mut Bits,
 ) -> Option<NextWords>
     ensures found { IfSome result (λ taken. TakesWords code.now words.old words.new (symbols_of taken)) }
     ensures none { IfNone result (BeginsWithNoWord code.now words.old.left) }
@@ -95,7 +95,7 @@ fn step<const TWO: bool, const TABLE: bool>(
 fn reach_by<'a, const TWO: bool, const TABLE: bool>(
     code: &Code,
     dict: &Dict,
-    left: WordReader<'a>,
+    left: Bits<'a>,
     index: u64,
 ) -> Option<Reached<'a>>
     requires accepted { IsCode code.now }
@@ -128,7 +128,7 @@ fn reach_by<'a, const TWO: bool, const TABLE: bool>(
 
 /// As `reach_by`, in the way that is quickest for the code.
 #[inline(always)]
-fn reach<'a>(code: &Code, dict: &Dict, left: WordReader<'a>, index: u64) -> Option<Reached<'a>>
+fn reach<'a>(code: &Code, dict: &Dict, left: Bits<'a>, index: u64) -> Option<Reached<'a>>
     requires accepted { IsCode code.now }
     requires symbols { code.now.symbols ≡ length dict.now }
     ensures there { IfSome result (λ reached. AreSymbols dict.now (symbols_of reached.words)) }
@@ -151,7 +151,7 @@ fn reach<'a>(code: &Code, dict: &Dict, left: WordReader<'a>, index: u64) -> Opti
 
 /// Returns whether the bits left spell `needed` values or more.
 #[inline(always)]
-fn spells_on(code: &Code, dict: &Dict, left: WordReader, needed: u64) -> bool
+fn spells_on(code: &Code, dict: &Dict, left: Bits, needed: u64) -> bool
     requires accepted { IsCode code.now }
     requires symbols { code.now.symbols ≡ length dict.now }
     ensures { IsTrue result ↔ (needed ≤ length (values_spelled code.now dict.now left.entry.left)) }
@@ -176,7 +176,7 @@ pub(crate) fn find_verified(
     ensures enough { IfSome result (λ _. needed ≤ length (values_spelled code.now dict.now (bits block.now))) }
     ensures few { IfNone result (¬ (needed ≤ length (values_spelled code.now dict.now (bits block.now)))) }
 {
-    let reached = reach(code, dict, WordReader::new(block), index)?;
+    let reached = reach(code, dict, Bits::new(block), index)?;
     let before = index - reached.index;
     let missing = (needed - before).saturating_sub(reached.count);
     if !spells_on(code, dict, reached.left, missing) {
@@ -194,7 +194,7 @@ pub(crate) fn find_up_to(code: &Code, dict: &Dict, block: &[u8], index: u64) -> 
     ensures value { IfSome result (λ value. slice_get (values_spelled code.now dict.now (bits block.now)) index ≡ Some value) }
     ensures none { IfNone result (length (values_spelled code.now dict.now (bits block.now)) ≤ index) }
 {
-    let reached = reach(code, dict, WordReader::new(block), index)?;
+    let reached = reach(code, dict, Bits::new(block), index)?;
     Some(value_in(dict, reached.words, reached.index as u16))
 }
 
@@ -207,9 +207,9 @@ pub fn value_at(code: &Code, dict: &Dict, block: &[u8], index: u64) -> u16
     ensures { slice_get (values_spelled code.now dict.now (bits block.now)) index ≡ Some result }
 {
     if code.is_read_word_by_word() {
-        return value_by_words(code, dict, WordReader::new(block), index);
+        return value_by_words(code, dict, Bits::new(block), index);
     }
-    let Some(reached) = reach(code, dict, WordReader::new(block), index) else {
+    let Some(reached) = reach(code, dict, Bits::new(block), index) else {
         unreachable!()
     };
     value_in(dict, reached.words, reached.index as u16)
@@ -218,7 +218,7 @@ pub fn value_at(code: &Code, dict: &Dict, block: &[u8], index: u64) -> u16
 /// Returns the value at `index` among those that the remaining bits decode to. Decodes word by word. The bits must
 /// spell more than `index` values.
 #[inline(always)]
-fn value_by_words(code: &Code, dict: &Dict, left: WordReader, index: u64) -> u16
+fn value_by_words(code: &Code, dict: &Dict, left: Bits, index: u64) -> u16
     requires accepted { IsCode code.now }
     requires symbols { code.now.symbols ≡ length dict.now }
     requires within { index < length (values_spelled code.now dict.now left.left) }
@@ -258,7 +258,7 @@ pub(crate) fn find_in_block(code: &Code, dict: &Dict, block: &[u8], index: u64) 
     ensures words { result.words ≡ (word_at code.now dict.now (bits block.now) index).list + 1 }
     ensures pairs { result.pairs ≡ pairs_above code.now dict.now (bits block.now) index }
 {
-    let mut words = WordReader::new(block);
+    let mut words = Bits::new(block);
     let mut ahead = index;
     let mut before = 0;
     while let Some(symbol) = next_word_if::<true>(code, &mut words) {
@@ -323,7 +323,7 @@ pub(crate) fn push_values(
     ensures { OnOk result (values.new.items ≡ values.old.items ++ take needed (values_spelled code.now dict.now (bits block.now))) }
 {
     prove_eq!(code.symbols(), dict.symbols());
-    let mut words = WordReader::new(block);
+    let mut words = Bits::new(block);
     let mut missing = needed;
     while missing > 0 {
         let Some(symbol) = next_word_if::<true>(code, &mut words) else {
@@ -370,7 +370,7 @@ pub fn write_values(code: &Code, dict: &Dict, block: &[u8], values: &mut [u16])
     ensures { values.new ≡ take (length values.old) (values_spelled code.now dict.now (bits block.now)) }
 {
     prove_eq!(code.symbols(), dict.symbols());
-    let mut words = WordReader::new(block);
+    let mut words = Bits::new(block);
     let mut at = 0;
     'words: while at < values.len() {
         let Some(symbol) = next_word_if::<true>(code, &mut words) else {

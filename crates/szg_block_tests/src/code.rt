@@ -2,7 +2,7 @@
 use crate::helpers::made;
 use std::alloc::Global;
 use std::process::Abort;
-use szg_code::{BitBuf, Code, CodeFault, PutFault, WordReader, next_word_if, put, word};
+use szg_code::{BitBuf, Code, CodeFault, PutFault, Bits, next_word_if, put, word};
 
 fn code(rt: &(impl Abort + Alloc<A = Global>), min: u8, max: u8, lowest: &[u16], n: u16) -> Code {
     let lowest = made(rt, lowest.to_vec(rt.alloc()));
@@ -91,7 +91,7 @@ fn check_symbols_by<const TABLE: bool>(
     place: u64,
 ) {
     assert!(rt; bytes.len() <= 64);
-    let mut words = WordReader::new(bytes);
+    let mut words = Bits::new(bytes);
     for symbol in symbols {
         assert!(rt;
             next_word_if::<TABLE>(code, &mut words) == Some(*symbol),

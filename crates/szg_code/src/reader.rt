@@ -33,13 +33,13 @@ struct Window {
 /// The window is read anew when it may be too short for the longest word. A word counts as a longest one there, so the
 /// number of words between two such reads is always the same, and a processor can predict it.
 #[derive(Drop)]
-pub struct WordReader<'a> {
+pub struct Bits<'a> {
     bytes: &'a [u8],
     offset: u64,
     window: Window,
 }
 
-impl<'a> Model for WordReader<'a> {
+impl<'a> Model for Bits<'a> {
     ghost use Rattle.std.specs.Prelude.{take, drop};
     ghost use Rattle.szg_code.specs.Bits.{bits};
     ghost use Rattle.szg_code.specs.Cursor.{Cursor};
@@ -52,14 +52,14 @@ impl<'a> Model for WordReader<'a> {
     ghost invariant = { λ reader. IsWordReader reader.bytes.now reader.offset reader.window.bits reader.window.held };
 }
 
-impl<'a> WordReader<'a> {
+impl<'a> Bits<'a> {
     /// Creates a reader at the first bit of at most 2^60 bytes.
-    pub fn new(bytes: &'a [u8]) -> WordReader<'a>
+    pub fn new(bytes: &'a [u8]) -> Bits<'a>
         requires { length bytes.now ≤ 2 ^ 60 }
         ensures taken { result.taken ≡ [] }
         ensures left { result.left ≡ bits bytes.now }
     {
-        WordReader {
+        Bits {
             bytes,
             offset: 0,
             window: Window { bits: 0, held: 0 },
@@ -126,7 +126,7 @@ fn window_of(bytes: &[u8], offset: u64, window: Window, count: u64) -> Window
 /// Decodes the word at the reader's offset, moves the reader past it, and returns its symbol. The remaining bits must begin
 /// with a word.
 #[inline(always)]
-pub fn next_word(code: &Code, words: &mut WordReader) -> u16
+pub fn next_word(code: &Code, words: &mut Bits) -> u16
     requires { BeginsWithNoWord code.now words.old.left → ⊥ }
     ensures { TakesWord code.now words.old words.new result }
 {
@@ -147,7 +147,7 @@ pub fn next_word(code: &Code, words: &mut WordReader) -> u16
 /// bits. None if the remaining bits do not begin with a word, or if the word would extend past the bytes; then the reader does
 /// not move. If `TABLE`, a word's length is found by the code's table of first bytes, else by comparing.
 #[inline(always)]
-pub fn next_word_if<const TABLE: bool>(code: &Code, words: &mut WordReader) -> Option<u16>
+pub fn next_word_if<const TABLE: bool>(code: &Code, words: &mut Bits) -> Option<u16>
     ensures found { IfSome result (λ s. TakesWord code.now words.old words.new s) }
     ensures none { IfNone result (BeginsWithNoWord code.now words.old.left × (words.new ≡ words.old)) }
 {
@@ -168,6 +168,16 @@ pub fn next_word_if<const TABLE: bool>(code: &Code, words: &mut WordReader) -> O
     Some(symbol)
 }
 
+/// Decodes the word at the reader's offset, moves the reader past it, and returns its symbol. None if the remaining bits do not
+/// begin with a word, or if the word would extend past the bytes; then the reader does not move.
+#[inline(always)]
+pub fn next(code: &Code, bits: &mut Bits) -> Option<u16>
+    ensures found { IfSome result (λ s. TakesWord code.now bits.old bits.new s) }
+    ensures none { IfNone result (BeginsWithNoWord code.now bits.old.left × (bits.new ≡ bits.old)) }
+{
+    next_word_if::<true>(code, bits)
+}
+
 /// The symbols of one or two words, in their order.
 #[derive(Debug, Clone, Copy, PartialEq, Eq)]
 pub enum NextWords {
@@ -180,7 +190,7 @@ pub enum NextWords {
 /// Decodes the next two words if the next byte contains both, and moves the reader past them. Otherwise returns None,
 /// and the reader does not move.
 #[inline(always)]
-fn next_two(code: &Code, words: &mut WordReader) -> Option<TwoWords>
+fn next_two(code: &Code, words: &mut Bits) -> Option<TwoWords>
     ensures found { IfSome result (λ two. (middle : Cursor) × TakesWord code.now words.old middle two.first × TakesWord code.now middle words.new two.second) }
     ensures none { IfNone result (words.new ≡ words.old) }
 {
@@ -203,13 +213,13 @@ fn next_two(code: &Code, words: &mut WordReader) -> Option<TwoWords>
 /// decoded at a step if both are in the next byte. None if the remaining bits do not begin with a word; then the reader does
 /// not move.
 #[inline(always)]
-pub fn next_words(code: &Code, words: &mut WordReader) -> Option<NextWords>
+pub fn next_words(code: &Code, words: &mut Bits) -> Option<NextWords>
     ensures found { IfSome result (λ taken. TakesWords code.now words.old words.new (symbols_of taken)) }
     ensures none { IfNone result (BeginsWithNoWord code.now words.old.left × (words.new ≡ words.old)) }
 {
     if let Some(two) = next_two(code, words) {
         return Some(NextWords::Two(two.first, two.second));
     }
-    let symbol = next_word_if::<true>(code, words)?;
+    let symbol = next(code, words)?;
     Some(NextWords::One(symbol))
 }

@@ -3,7 +3,7 @@ ghost use Rattle.std.specs.Prelude.{◌≡◌, ◌≤◌, IfSome};
 ghost use Rattle.szg_code.specs.TwoWords.{ContainsTwoWords, HasTwoWords};
 
 use crate::canonical::Code;
-use crate::reader::{WordReader, next_word_if};
+use crate::reader::{Bits, next_word_if};
 
 /// The symbols of the first two words of a byte, and the number of bits of both together. 0 bits if the byte does not
 /// contain two whole words.
@@ -26,7 +26,7 @@ fn two_words_of(code: &Code, byte: u8) -> TwoWords
     ensures { ContainsTwoWords code.now byte result }
 {
     let bytes = [byte];
-    let mut words = WordReader::new(&bytes);
+    let mut words = Bits::new(&bytes);
     let Some(first) = next_word_if::<true>(code, &mut words) else {
         return NO_WORDS;
     };
