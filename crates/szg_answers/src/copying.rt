@@ -12,10 +12,13 @@ use std::fs::Metadata;
 use std::io::ErrorKind;
 use std::path::Path;
 use std::rt::Files;
+use szg_archive::{
+    CheckCounts, CheckOptions, CheckReport, CheckStop, Due, FileVerdict, check_path, due_of,
+    read_lists, summary_line, verdict_line,
+};
 use szg_build::StreamFault;
 use szg_files::{Draft, FileFault, FileSystem, Lock, Published, Reasons, is_folder};
 use szg_io::{Input, Output, give_whole, take_whole};
-use szg_archive::{CheckCounts, CheckOptions, CheckReport, CheckStop, Due, FileVerdict, check_path, due_of, read_lists, summary_line, verdict_line};
 use szg_sums::{Hasher, Sha256, Sums, sha256_of};
 use szg_words::{CopyWords, same_name_error};
 

@@ -20,11 +20,14 @@ use crate::streaming::{device_stop, lists_values, stream_from};
 use std::alloc::Global;
 use std::rt::Files;
 use std::time::Clock;
+use szg_archive::{
+    CheckOptions, CheckReport, ListFailure, Log, check_files, check_found, files_to_check, kind_at,
+    read_lists,
+};
 use szg_build::Watcher;
 use szg_file::{ReadFault, open_front};
 use szg_files::{Disk, Draft, FileFault, FileSystem, Lock, Published, Reasons};
 use szg_io::{Input, Output, give_whole};
-use szg_archive::{CheckOptions, CheckReport, ListFailure, Log, check_files, check_found, files_to_check, kind_at, read_lists};
 use szg_named::named_by;
 use szg_sums::Sums;
 use szg_values::{Kind, Material};

@@ -11,7 +11,7 @@ ghost use Rattle.szg_code.specs.Spelling.{BeginsWithNoWord};
 ghost use Rattle.szg_block.specs.Spelled.{AreSymbols, values_of, values_spelled, word_at, pairs_above};
 
 use std::alloc::AllocError;
-use szg_code::{Code, NextWords, Bits, next_word, next_word_if, next_words};
+use szg_code::{Bits, Code, NextWords, next_word, next_word_if, next_words};
 use szg_pairs::Dict;
 use szg_pairs::entry::{is_leaf, left, right};
 
@@ -74,10 +74,7 @@ struct Reached<'a> {
 /// Decodes one word, or if `TWO`, one or two; moves the reader past what it decoded, and returns the symbols. None if the
 /// bits left do not begin with a word. A word's length is found as `next_word_if` does.
 #[inline(always)]
-fn step<const TWO: bool, const TABLE: bool>(
-    code: &Code,
-    words: &mut Bits,
-) -> Option<NextWords>
+fn step<const TWO: bool, const TABLE: bool>(code: &Code, words: &mut Bits) -> Option<NextWords>
     ensures found { IfSome result (λ taken. TakesWords code.now words.old words.new (symbols_of taken)) }
     ensures none { IfNone result (BeginsWithNoWord code.now words.old.left) }
 {

@@ -2,7 +2,7 @@
 use crate::helpers::made;
 use std::alloc::Global;
 use std::process::Abort;
-use szg_code::{BitBuf, Code, CodeFault, PutFault, Bits, next_word_if, put, word};
+use szg_code::{BitBuf, Bits, Code, CodeFault, PutFault, next_word_if, put, word};
 
 fn code(rt: &(impl Abort + Alloc<A = Global>), min: u8, max: u8, lowest: &[u16], n: u16) -> Code {
     let lowest = made(rt, lowest.to_vec(rt.alloc()));

@@ -12,10 +12,10 @@ use std::process::ExitCode;
 use std::rt::Files;
 use std::time::Clock;
 use szg_answers::{Ending, Outcome, run_copies, run_words};
+use szg_archive::escaped_path;
 use szg_build::Watcher;
 use szg_files::{Disk, Lock, Monitored};
 use szg_io::{ReadAhead, Std};
-use szg_archive::escaped_path;
 use szg_verified::Progress;
 use szg_words::{Clap, assumes_win, copies_of, meant_name, probe_of, verification_of};
 
