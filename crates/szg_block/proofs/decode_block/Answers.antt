@@ -5,7 +5,7 @@ use Rattle.szg_block.specs.Spelled.{values_spelled}
 use Rattle.szg_block.specs.Subtable.{layout_from}
 use Rattle.szg_block.proofs.Parts.{spelled_needed}
 use Rattle.szg_block.proofs.Spelling.{block_values-spelled}
-use Rattle.szg_block.proofs.decoding.decode_block.Goals as goal
+use Rattle.szg_block.proofs.decode_block.Goals as goal
 
 pub push_values-requires-clause-within : goal.push_values-requires-clause-within
 push_values-requires-clause-within c =
