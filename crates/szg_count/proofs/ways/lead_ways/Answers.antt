@@ -2,7 +2,7 @@ use Rattle.std.proofs.Common.{◌≡◌, length, sym, ap, ◌∙◌, true, false
 use Rattle.szg_values.specs.Material.{has_pawns, has_single_lead}
 use Rattle.szg_count.specs.Leads.{lead_pawn_sets}
 use Rattle.szg_count.proofs.Counts.{lead_ways-pawns, lead_ways-three, lead_ways-kings}
-use Rattle.szg_count.proofs.ways.ways_of_lead.Goals as goal
+use Rattle.szg_count.proofs.ways.lead_ways.Goals as goal
 
 pub returns-then-has_pawns : goal.returns-then-has_pawns
 returns-then-has_pawns c =
