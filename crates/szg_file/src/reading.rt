@@ -1,7 +1,6 @@
 pub(crate) mod blocks;
 pub(crate) mod dropping;
 mod heads;
-pub(crate) mod in_memory;
 mod index;
 mod kept;
 mod maps;
@@ -24,7 +23,7 @@ ghost use Rattle.szg_file.specs.File.{file, begun};
 ghost use Rattle.szg_file.specs.Accepted.{IsAccepted};
 ghost use Rattle.szg_file.specs.Held.{file_bytes, part_of};
 ghost use Rattle.szg_file.specs.Reading.{Reading, Lacking};
-ghost use Rattle.szg_file.specs.WholeRead.{FollowsVerdict, TookBytes, list_lengths};
+ghost use Rattle.szg_file.specs.WholeRead.{FollowsVerdict, IsVerdict, TookBytes, list_lengths};
 ghost use Rattle.szg_file.specs.FilePieces.{opening_field, ending_field, opened, contents_of};
 ghost use Rattle.szg_file.specs.Grown.{HasCounted, opening_lengths, pieces_lengths};
 
@@ -42,7 +41,7 @@ use crate::table::{Map, Table};
 use crate::table_index::index_of_subs;
 use std::alloc::Global;
 use szg_block::Sub;
-use szg_io::Input;
+use szg_io::{Bytes, Input};
 use szg_values::{Kind, Material};
 
 /// The contents of a file up to its sparse indexes.
@@ -188,4 +187,18 @@ pub fn read<R: Input>(
         filled: state.fill,
         last,
     })
+}
+
+/// Reads a table of this material and kind from the front of `bytes`, as `read` does. There is no device that can
+/// fail: the result is the verdict on the bytes, or `Memory`.
+pub fn read_bytes(
+    alloc: Global,
+    material: Material,
+    kind: Kind,
+    bytes: &[u8],
+) -> Result<Table, ReadFault>
+    ensures { IsVerdict (verdict (file material kind) 0 bytes.now) result }
+{
+    let mut input = Bytes::new(bytes);
+    read(alloc, material, kind, &mut input)
 }

@@ -5,7 +5,7 @@ use Rattle.szg_file.specs.Format.{verdict}
 use Rattle.szg_file.specs.File.{file}
 use Rattle.szg_file.specs.WholeRead.{FollowsVerdict}
 use Rattle.szg_file.proofs.Readers.ReadAnswers.{in_memory}
-use Rattle.szg_file.proofs.reading.in_memory.read_bytes.Goals as goal
+use Rattle.szg_file.proofs.reading.read_bytes.Goals as goal
 
 pub returns : goal.returns
 returns c =
