@@ -23,21 +23,6 @@ pub struct Outgoing<'a> {
     pub fill: &'a [u8],
 }
 
-impl<'a> Outgoing<'a> {
-    /// Creates the state before the first byte of a file with these padding bytes.
-    pub fn new(fill: &'a [u8]) -> Outgoing<'a>
-        ensures out { result.out ≡ 0 }
-        ensures held { result.held.items ≡ [] }
-        ensures fill { result.fill.now ≡ fill.now }
-    {
-        Outgoing {
-            out: 0,
-            held: ArrayVec::new(),
-            fill,
-        }
-    }
-}
-
 /// Writes `chunk` after the first `out` bytes; returns the new total. Errors: the total when the device failed.
 fn give<W: Output>(chunk: &[u8], output: &mut W, out: u64) -> Result<u64, WriteFault>
     ensures ok { IfOk result (λ now. now ≡ (out + length chunk.now) % 2 ^ 64) }

@@ -172,24 +172,16 @@ fn put_wide_list<W, S: SectionSink<W>>(list: &Vec<u16>, sink: &mut S, out: &mut 
     sink.numbers(list, out);
 }
 
-fn put_lists<W, S: SectionSink<W>>(map: &Map, sink: &mut S, out: &mut W)
-    ensures { Took S.takes (map_sections (Some (map_of map.now))) sink.old out.old sink.new out.new }
-{
-    match map {
-        Map::Bytes(lists) => put_each(lists, put_short_list, sink, out),
-        Map::Wide(lists) => {
-            sink.padding(2, out);
-            put_each(lists, put_wide_list, sink, out);
-        }
-    }
-}
-
 fn put_map<W, S: SectionSink<W>>(map: &Option<Map>, sink: &mut S, out: &mut W)
     ensures { Took S.takes (map_sections (option_map map_of map.now)) sink.old out.old sink.new out.new }
 {
     match map {
         None => {}
-        Some(map) => put_lists(map, sink, out),
+        Some(Map::Bytes(lists)) => put_each(lists, put_short_list, sink, out),
+        Some(Map::Wide(lists)) => {
+            sink.padding(2, out);
+            put_each(lists, put_wide_list, sink, out);
+        }
     }
 }
 
