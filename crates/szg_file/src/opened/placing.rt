@@ -1,5 +1,5 @@
 //! The offsets of a table's blocks, computed from its headers.
-ghost use Rattle.std.specs.Prelude.{ℕ, List, ◌≡◌, ◌+◌, ◌*◌, ◌^◌, ◌≤◌, ◌<◌, length, map, Err, IfOk, IfSome, OnErr};
+ghost use Rattle.std.specs.Prelude.{ℕ, List, ◌≡◌, ◌+◌, ◌*◌, ◌^◌, ◌≤◌, ◌<◌, length, map, IfOk, IfSome};
 ghost use Rattle.std.specs.List.{AllByRecursion};
 ghost use Rattle.szg_block.specs.Subtable.{layout_of};
 ghost use Rattle.szg_file.specs.Contents.{gap};
@@ -23,13 +23,6 @@ pub struct PlacedSubs {
     pub room: usize,
 }
 
-/// The offsets of a subtable's first block and after its last.
-#[derive(Clone, Copy)]
-struct Extent {
-    first: u64,
-    end: u64,
-}
-
 /// Returns the number of padding bytes from offset `place` up to a multiple of 64.
 pub(crate) fn padding_to_64(place: u64) -> u64
     ensures gap { result ≡ gap 64 place }
@@ -40,28 +33,22 @@ pub(crate) fn padding_to_64(place: u64) -> u64
 
 /// Returns the offset of a subtable's first block and the offset after its last. The padding of the blocks begins
 /// at offset `place`.
-fn place_blocks(sub: &Sub, place: u64) -> Extent
+fn place_blocks(sub: &Sub, place: u64) -> (u64, u64)
     requires place { place < 2 ^ 61 }
     requires bits { IfSome (layout_of sub.now) (λ layout. layout.block_bits ≤ 18) }
-    ensures first { result.first ≡ blocks_first place (subtable_of sub.now) }
-    ensures end { result.end ≡ blocks_end place (subtable_of sub.now) }
-    ensures long { result.end ≤ place + 2 ^ 51 }
+    ensures first { result.0 ≡ blocks_first place (subtable_of sub.now) }
+    ensures end { result.1 ≡ blocks_end place (subtable_of sub.now) }
+    ensures long { result.1 ≤ place + 2 ^ 51 }
 {
     match sub {
-        Sub::Constant { .. } => Extent {
-            first: 0,
-            end: place,
-        },
+        Sub::Constant { .. } => (0, place),
         Sub::Pairs {
             block_bits,
             blocks,
             ..
         } => {
             let first = place + padding_to_64(place);
-            Extent {
-                first,
-                end: first + u64::from(*blocks) * (1 << *block_bits),
-            }
+            (first, first + u64::from(*blocks) * (1 << *block_bits))
         }
     }
 }
@@ -87,11 +74,9 @@ pub(crate) fn place_subs(
         let Measured { sub, .. } = measured;
         let at = place_blocks(&sub, end);
         room = room.max(block_bytes(&sub) as usize);
-        subs.push(PlacedSub {
-            sub,
-            first: at.first,
-        })?;
-        end = at.end;
+        let first = at.0;
+        subs.push(PlacedSub { sub, first })?;
+        end = at.1;
     }
     Ok(PlacedSubs { subs, end, room })
 }

@@ -41,13 +41,13 @@ subtables-preserved c =
     let held : c.block_bytes.result ≤ c.max-room.result = search rules in
     record {
       subs = λ content. ap (map (whole_sub content)) pushed
-          ∙ placed_more content c.args.place done c.in-Some.measured c.subtables.subs.items c.measured.inside.sub c.place_blocks-at.result.first c.subtables.end (c.subtables.invariant.subs content) c.subtables.invariant.end is first
+          ∙ placed_more content c.args.place done c.in-Some.measured c.subtables.subs.items c.measured.inside.sub c.place_blocks-at.result.0 c.subtables.end (c.subtables.invariant.subs content) c.subtables.invariant.end is first
           ∙ sym (ap (λ (l : List Begun). unread_subs content c.args.place l) taken);
       end = ends ∙ ap (λ (k : ℕ). blocks_end k one) c.subtables.invariant.end ∙ ap (λ (s : Subtable). blocks_end (unread_end c.args.place done) s) is
           ∙ sym (end_more c.args.place done c.in-Some.measured) ∙ sym (ap (λ (l : List Begun). unread_end c.args.place l) taken);
       few = omega (arith, c.subtables.invariant.few, c.place_blocks-at.ensures.long, longer);
       fits = λ content inside.
           subst (λ (l : List PlacedSub). AllByRecursion (Fits (length content) c.max-room.result) l) (sym pushed)
-          (fits_more (length content) c.subtables.room c.max-room.result c.subtables.end c.subtables.subs.items c.measured.inside.sub c.place_blocks-at.result.first c.block_bytes.result
+          (fits_more (length content) c.subtables.room c.max-room.result c.subtables.end c.subtables.subs.items c.measured.inside.sub c.place_blocks-at.result.0 c.block_bytes.result
           (c.subtables.invariant.fits content (omega (arith, after, ends, inside))) kept first (omega (arith, ends, inside)) c.block_bytes.ensures.bytes held);
     }
