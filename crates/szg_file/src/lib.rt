@@ -30,7 +30,7 @@ pub use reading::blocks::{block_bytes, is_constant};
 pub use reading::dropping::PlacedSub;
 pub use reading::parts::{has_two_sides, part_count};
 pub use reading::scan::{Scanned, scan};
-pub use reading::sink::{NoSink, SinkFault, ValueSink};
+pub use reading::sink::{NoSink, ValueSink};
 pub use reading::{read, read_bytes};
 pub use table::{Map, PartBytes, Table};
 pub use table_index::TableIndex;
