@@ -1,5 +1,5 @@
 //! Finding a subtable of a table.
-ghost use Rattle.std.specs.Prelude.{ℕ, List, ◌≡◌, ◌+◌, ◌^◌, ◌<◌, ◌≤◌, ◌&&◌, nat_eq, position, slice_get, length, MatchOption, IfSome, IsSomeAnd, Some, None};
+ghost use Rattle.std.specs.Prelude.{◌≡◌, ◌<◌, ◌≤◌, ◌&&◌, nat_eq, position, length, MatchOption, Some, None};
 ghost use Rattle.szg_file.specs.Values.{constant_value as constant_of};
 ghost use Rattle.szg_file.specs.Lookup.{byte_of};
 ghost use Rattle.szg_file.specs.Placed.{IsSlotted};

@@ -1,5 +1,5 @@
 //! Checks of assembled subtables and maps, as a reader makes them.
-ghost use Rattle.std.specs.Prelude.{◌≡◌, ◌<◌, ◌^◌, ◌↔◌, IsTrue, length, map, option_map};
+ghost use Rattle.std.specs.Prelude.{◌<◌, ◌^◌, ◌↔◌, IsTrue, length, map, option_map};
 ghost use Rattle.szg_file.specs.Accepted.{SideBySide, AreNumbers, IsSubtable, AreLists, IsMapOf, AreMaps};
 ghost use Rattle.szg_file.specs.Held.{subtable_of, map_of};
 

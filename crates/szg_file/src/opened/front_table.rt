@@ -123,10 +123,8 @@ fn front_table(
     let placed = place_subs(alloc, measured, place)?;
     let ending = placed.end + padding_to_64(placed.end);
     if size < ending + 16 {
-        return Err(ReadFault::Refused {
-            place: size,
-            reason: Reason::Truncated,
-        });
+        let (place, reason) = (size, Reason::Truncated);
+        return Err(ReadFault::Refused { place, reason });
     }
     let index = index_of_placed(material, kind, parts, &placed.subs, maps);
     Ok(FrontTable {
@@ -162,10 +160,8 @@ pub fn open_front_with<R: Input>(
     let read = read_front(alloc, &material, kind, all, input, &mut state)?;
     let place = state.place;
     if size < place {
-        return Err(ReadFault::Refused {
-            place: size,
-            reason: Reason::Truncated,
-        });
+        let (place, reason) = (size, Reason::Truncated);
+        return Err(ReadFault::Refused { place, reason });
     }
     let table = front_table(alloc, material, kind, size, read, place)?;
     Ok((table, place))

@@ -5,7 +5,7 @@ ghost use Rattle.szg_code.specs.Acceptance.{IsCode};
 ghost use Rattle.szg_block.specs.Block.{start};
 ghost use Rattle.szg_block.specs.Sound.{SpellsNeeded};
 ghost use Rattle.szg_block.specs.Subtable.{layout_of, IsHeaded};
-ghost use Rattle.szg_file.specs.File.{each, block_field, blocks_from, blocks_field};
+ghost use Rattle.szg_file.specs.File.{each, block_field, blocks_field};
 ghost use Rattle.szg_file.specs.Placed.{since, whole_sub, Fits};
 ghost use Rattle.szg_file.specs.Reading.{Reading};
 ghost use Rattle.szg_file.specs.Streaming.{Accepted, values_if, wanted_values};
@@ -138,11 +138,9 @@ pub(crate) fn pass_block<R: Input>(
 {
     let place = state.place;
     take_field(input, state, buffer)?;
+    let reason = Reason::Word;
     match check_block_from(sub, size, n, before, buffer) {
         Ok(()) => Ok(()),
-        Err(_) => Err(ReadFault::Refused {
-            place,
-            reason: Reason::Word,
-        }),
+        Err(_) => Err(ReadFault::Refused { place, reason }),
     }
 }

@@ -1,6 +1,5 @@
 //! The values of blocks, which a sink accepts while the blocks are read.
 ghost use Rattle.std.specs.Prelude.{◌≡◌, ◌+◌, ◌*◌, ◌≤◌, ◌<◌, ◌^◌, Err, IfSome, IsSomeAnd, None, OnErr, OnOk, length, take};
-ghost use Rattle.szg_code.specs.Acceptance.{IsCode};
 ghost use Rattle.szg_block.specs.Block.{block_values, needed, start};
 ghost use Rattle.szg_block.specs.Expansion.{joined_values};
 ghost use Rattle.szg_block.specs.Sound.{SpellsNeeded};
@@ -50,9 +49,7 @@ fn put_block<W, K: ValueSink<W>>(
         return Ok(());
     }
     values.clear();
-    if decode_block(sub, size, n, before, block, values).is_err() {
-        return Err(ReadFault::Memory);
-    }
+    decode_block(sub, size, n, before, block, values)?;
     match sink.put(values, out) {
         Ok(()) => Ok(()),
         Err(_) => Err(ReadFault::Memory),
