@@ -3,7 +3,7 @@ ghost use Rattle.std.specs.Prelude.{◌≡◌, ◌<◌, option_map, Some, IfSome
 ghost use Rattle.szg_file.specs.Held.{map_of};
 ghost use Rattle.szg_file.specs.Values.{list_number as list_of_class, in_plies as is_in_plies, number_at as number_of};
 
-use crate::flags::has_bit;
+use crate::lookup::has_bit;
 use crate::table::Map;
 
 /// Returns the number of a map's list for a class. None for a draw.

@@ -16,7 +16,7 @@ use crate::lookup::{Slotted, constant_value, slotted_at};
 use crate::opened::forward::Forward;
 use crate::reading::blocks::block_bytes;
 use crate::reading::dropping::PlacedSub;
-use crate::reading::outline::{Outline, read_outline};
+use crate::reading::{Outline, read_outline};
 use crate::reading::sink::NoSink;
 use crate::reading::state::ReaderState;
 use crate::table_index::{TableIndex, index_of_placed};

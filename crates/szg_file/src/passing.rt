@@ -4,7 +4,7 @@ ghost use Rattle.szg_file.specs.Accepted.{SideBySide, AreNumbers, IsSubtable, Ar
 ghost use Rattle.szg_file.specs.Held.{subtable_of, map_of};
 
 use crate::begun::Slot;
-use crate::flags::{flags_of, has_bit};
+use crate::lookup::{flags_of, has_bit};
 use crate::table::Map;
 use crate::typed::sub_fits;
 use szg_block::{Sub, check, shaped};

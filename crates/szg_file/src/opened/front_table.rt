@@ -14,7 +14,7 @@ ghost use Rattle.szg_file.specs.Unread.{BeginsWithFront, unread_file};
 use crate::fault::{ReadFault, Reason};
 use crate::opened::placing::{padding_to_64, place_subs};
 use crate::reading::dropping::PlacedSub;
-use crate::reading::read_front::{FrontRead, read_front};
+use crate::reading::{FrontRead, read_front};
 use crate::reading::state::ReaderState;
 use crate::table_index::{TableIndex, index_of_placed};
 use std::alloc::Global;

@@ -11,7 +11,7 @@ ghost use Rattle.szg_file.specs.WholeRead.{sub_lengths};
 
 use crate::begun::{Begun, Slot};
 use crate::fault::{ReadFault, Reason};
-use crate::flags::has_bit;
+use crate::lookup::has_bit;
 use crate::reading::state::{ReaderState, append};
 use crate::reading::taking::{
     read_byte, read_number, take_entries, take_field, take_numbers, take_spare,

@@ -6,7 +6,7 @@ ghost use Rattle.szg_file.specs.Reading.{Reading, start_field};
 ghost use Rattle.szg_file.specs.Grown.{HasCounted};
 
 use crate::fault::{ReadFault, Reason};
-use crate::flags::has_bit;
+use crate::lookup::has_bit;
 use crate::reading::state::ReaderState;
 use crate::reading::taking::{read_byte, take_field};
 use szg_io::Input;

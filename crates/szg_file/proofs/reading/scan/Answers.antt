@@ -11,7 +11,7 @@ use Rattle.szg_file.specs.Index.{IsIndex, index_with, index_of}
 use Rattle.szg_file.specs.Streaming.{wanted_of}
 use Rattle.szg_file.specs.declared.reading.dropping.PlacedSub.{PlacedSub}
 use Rattle.szg_file.specs.declared.fault.ReadFault.{ReadFault}
-use Rattle.szg_file.specs.declared.reading.outline.Outline.{Outline}
+use Rattle.szg_file.specs.declared.reading.Outline.{Outline}
 use Rattle.szg_file.proofs.Tables.IndexLaws.{accepted_index}
 use Rattle.szg_file.proofs.Openings.KeptTables.{kept_wanted_of, outline_index_is}
 use Rattle.szg_file.proofs.Openings.OutlinedLaws.{outline_index}
@@ -19,7 +19,7 @@ use Rattle.szg_file.proofs.Readers.KeptReads.{memory_as}
 use Rattle.szg_file.proofs.Readers.Streamed.{accepted_as}
 use Rattle.szg_file.proofs.Tables.TableFinds.{side_lengths}
 use Rattle.szg_file.proofs.Readers.ReadAnswers.{follows_good, fault_follows, fault_took, whole_file}
-use Rattle.szg_file.proofs.reading.scan.scan.Goals as goal
+use Rattle.szg_file.proofs.reading.scan.Goals as goal
 
 -- the number of bytes read is the length of the file
 length_is : (place from : ℕ) (bytes all : List ℕ) → place ≡ from + length bytes → from ≡ 0 → bytes ≡ all → place ≡ length all

@@ -18,7 +18,7 @@ use Rattle.szg_file.proofs.Readers.LackingReads.{front_stops}
 use Rattle.szg_file.proofs.Readers.PassedBlocks.{valid_at}
 use Rattle.szg_file.proofs.Readers.PlacedSubs.{kept_whole, still_fit}
 use Rattle.szg_file.proofs.Readers.Streamed.{accepted_as}
-use Rattle.szg_file.proofs.reading.outline.read_outline.Goals as goal
+use Rattle.szg_file.proofs.reading.read_outline.Goals as goal
 
 pub returns-in_err-byte4 : goal.returns-in_err-byte4
 returns-in_err-byte4 g c =

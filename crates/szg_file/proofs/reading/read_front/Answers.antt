@@ -13,7 +13,7 @@ use Rattle.szg_file.proofs.Openings.FrontLaws.{after_opening}
 use Rattle.szg_file.proofs.Readers.ReadingLaws.{reads_then, reads_stopped, reads_nothing}
 use Rattle.szg_file.proofs.Readers.StreamedTables.{slot_of, slotted_begun}
 use Rattle.szg_file.proofs.Readers.Taken.{reads_equal}
-use Rattle.szg_file.proofs.reading.read_front.read_front.Goals as goal
+use Rattle.szg_file.proofs.reading.read_front.Goals as goal
 
 -- the contents of a front whose sparse indexes and block lengths were read
 abbrev made : Opened → List Begun → Format FrontRead
