@@ -12,7 +12,7 @@ use Rattle.szg_file.specs.declared.reading.dropping.PlacedSub.{PlacedSub}
 use Rattle.szg_file.proofs.Openings.FrontLaws.{ends_after}
 use Rattle.szg_file.proofs.Readers.LoopReads.{taken_next}
 use Rattle.szg_file.proofs.Openings.PlacingLaws.{end_more, placed_more, fits_more}
-use Rattle.szg_file.proofs.opened.placing.place_subs.Goals as goal
+use Rattle.szg_file.proofs.opened.front_table.place_subs.Goals as goal
 
 pub subtables-init : goal.subtables-init
 subtables-init c = record {

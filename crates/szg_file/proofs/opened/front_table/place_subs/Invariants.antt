@@ -2,7 +2,7 @@ use Rattle.std.proofs.Common.{ℕ, List, ◌≡◌, ◌+◌, ◌*◌, ◌≤◌,
 use Rattle.std.specs.List.{AllByRecursion}
 use Rattle.szg_file.specs.Placed.{whole_sub, Fits}
 use Rattle.szg_file.specs.Unread.{unread_subs, unread_end}
-use Rattle.szg_file.proofs.opened.placing.place_subs.Given as goal
+use Rattle.szg_file.proofs.opened.front_table.place_subs.Given as goal
 
 -- the subtables so far, and the offset after the last block
 abbrev pub invariant-subtables : goal.invariant-subtables

@@ -1,7 +1,7 @@
 use Rattle.std.proofs.Common.{◌*◌, ◌≤◌, ◌%◌, ◌^◌, arith, rules}
 use Rattle.std.proofs.Math.Nat.{mod-le, mul-le-mul}
 use Rattle.std.proofs.Math.Pow.{pow_mono}
-use Rattle.szg_file.proofs.opened.placing.place_blocks.Goals as goal
+use Rattle.szg_file.proofs.opened.front_table.place_blocks.Goals as goal
 
 pub returns-in-Pairs-clause-long : goal.returns-in-Pairs-clause-long
 returns-in-Pairs-clause-long c =
