@@ -16,7 +16,7 @@ use crate::fault::{ReadFault, Reason};
 use crate::reading::blocks::{block_bytes, is_constant};
 use crate::reading::sink::ValueSink;
 use crate::reading::state::{ReaderState, append};
-use crate::reading::streaming::{pass_blocks_to, put_constant};
+use crate::reading::streaming::{put_constant, stream_blocks};
 use crate::reading::taking::{take_field, take_fill};
 use std::alloc::Global;
 use szg_block::{Sub, block_count, check_block_from};
@@ -95,8 +95,19 @@ fn pass_sub<R: Input, W, K: ValueSink<W>>(
     take_fill(alloc, 64, input, state)?;
     let first = state.place;
     input.expect(u64::from(block_count(&sub)) * block_bytes(&sub));
-    let block = &mut buffer[..size];
-    pass_blocks_to(alloc, block, &sub, slot, input, state, sink, out)?;
+    let wanted = sink.wants(slot.part, slot.side);
+    let mut values = Vec::new(alloc);
+    stream_blocks(
+        wanted,
+        &mut buffer[..size],
+        &mut values,
+        &sub,
+        slot.size,
+        input,
+        state,
+        sink,
+        out,
+    )?;
     Ok(PlacedSub { sub, first })
 }
 
