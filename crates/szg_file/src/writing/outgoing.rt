@@ -127,29 +127,7 @@ fn write_each<T, W: Output, F: Fn(&T, &mut W, &mut Outgoing) -> Result<(), Write
     Ok(())
 }
 
-/// Writes a two-byte number, least byte first.
-fn put_u16<W: Output>(
-    number: u16,
-    output: &mut W,
-    outgoing: &mut Outgoing,
-) -> Result<(), WriteFault>
-    ensures { Writing (written (bytes_of 2 number) ∷ []) outgoing.old outgoing.new W.Output output.old output.new result }
-{
-    put(&number.to_le_bytes(), output, outgoing)
-}
-
-/// Writes a four-byte number, least byte first.
-fn put_u32<W: Output>(
-    number: u32,
-    output: &mut W,
-    outgoing: &mut Outgoing,
-) -> Result<(), WriteFault>
-    ensures { Writing (written (bytes_of 4 number) ∷ []) outgoing.old outgoing.new W.Output output.old output.new result }
-{
-    put(&number.to_le_bytes(), output, outgoing)
-}
-
-/// Writes two-byte numbers.
+/// Writes two-byte numbers, least byte first.
 pub(crate) fn put_numbers<W: Output>(
     list: &[u16],
     output: &mut W,
@@ -159,7 +137,7 @@ pub(crate) fn put_numbers<W: Output>(
 {
     write_each(
         list,
-        |number, output, outgoing| put_u16(*number, output, outgoing),
+        |number, output, outgoing| put(&number.to_le_bytes(), output, outgoing),
         output,
         outgoing,
     )
@@ -186,8 +164,8 @@ fn put_entry<W: Output>(
 ) -> Result<(), WriteFault>
     ensures { Writing (written (bytes_of 4 entry.now.block ++ bytes_of 2 entry.now.offset) ∷ []) outgoing.old outgoing.new W.Output output.old output.new result }
 {
-    put_u32(entry.block, output, outgoing)?;
-    put_u16(entry.offset, output, outgoing)
+    put(&entry.block.to_le_bytes(), output, outgoing)?;
+    put(&entry.offset.to_le_bytes(), output, outgoing)
 }
 
 /// Writes a sparse index.
