@@ -1,4 +1,4 @@
-ghost use Rattle.std.specs.Prelude.{ℕ, Bool, false, IsTrue, suc, ◌≡◌, ◌+◌, ◌*◌, ◌≤◌, ◌<◌, ◌^◌, List, length, map, slice_get, OnOk, IfOk, IfSome, IfNone, None};
+ghost use Rattle.std.specs.Prelude.{ℕ, Bool, suc, ◌≡◌, ◌+◌, ◌*◌, ◌≤◌, ◌<◌, ◌^◌, List, length, map, slice_get, OnOk, IfOk, IfSome, IfNone, None};
 ghost use Rattle.szg_block.specs.Kept.{with_lengths, IsKeptOf};
 ghost use Rattle.szg_block.specs.Subtable.{layout_of, IsIndexed};
 ghost use Rattle.szg_file.specs.File.{each, sparse_field, index_check};
@@ -142,7 +142,7 @@ fn read_measured<R: Input>(
     } = &mut sub
     {
         let count = *blocks as u64 + *extra as u64;
-        let limit = kept_limit(all, slot.size);
+        let limit = if all { u64::MAX } else { slot.size };
         let kept = take_kept(alloc, count, limit, last_block(sparse), input, state)?;
         before_last = kept.before_last;
         *lengths = kept.lengths;
@@ -151,14 +151,6 @@ fn read_measured<R: Input>(
         return Err(ReadFault::Refused { place, reason });
     }
     Ok(Measured { slot, sub, index })
-}
-
-/// Returns a limit: the lengths of blocks that begin below it are kept. It is above all values if `all`, else it is `size`.
-fn kept_limit(all: bool, size: u64) -> u64
-    ensures above { IsTrue all → 2 ^ 63 ≤ result }
-    ensures size { all ≡ false → result ≡ size }
-{
-    if all { u64::MAX } else { size }
 }
 
 /// Returns the block of the last entry of a sparse index; 0 if there is none.
