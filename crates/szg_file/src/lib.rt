@@ -4,7 +4,6 @@
 
 mod assembled;
 mod begun;
-mod comparing;
 mod distances;
 mod fault;
 pub mod laws;

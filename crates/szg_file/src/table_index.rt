@@ -9,7 +9,6 @@ ghost use Rattle.szg_file.specs.File.{flags_of as flags_byte};
 ghost use Rattle.szg_file.specs.Index.{AreSlotGroups, Index, IsIndex, IsNumbered, IsOrderedSlot, index_with, nibbles_in_part, number_in, slot_in, slot_number as number_of, slots_in};
 
 use crate::begun::Slot;
-use crate::comparing::{same_maps, same_parts};
 use crate::distances::{list_number, number_at};
 use crate::fault::MapFault;
 use crate::lookup::{flags_of, slot_number};
@@ -251,9 +250,9 @@ impl TableIndex {
     pub fn has_same(&self, other: &TableIndex) -> bool
         ensures { IsTrue result ↔ ((self.now.parts ≡ other.now.parts) × (self.now.flags ≡ other.now.flags) × (self.now.maps ≡ other.now.maps)) }
     {
-        same_parts(&self.parts.bytes, &other.parts.bytes)
+        self.parts.bytes == other.parts.bytes
             && self.flags.as_slice() == other.flags.as_slice()
-            && same_maps(&self.maps, &other.maps)
+            && self.maps == other.maps
     }
 
     /// Finds the subtable of a part and side. None if the table has no such part or side.
