@@ -168,32 +168,11 @@ impl<'a> Located<'a> {
 }
 
 impl FrontTable {
-    ghost use Rattle.std.specs.Prelude.{ℕ, List, ◌≡◌, ◌+◌, ◌^◌, ◌<◌, ◌≤◌, Some, IfErr, IfOk, IfSome, IsSomeAnd};
+    ghost use Rattle.std.specs.Prelude.{◌≡◌, ◌<◌, IfErr, IfOk, IfSome, IsSomeAnd};
     ghost use Rattle.szg_file.specs.Fetching.{NamesBadBlock};
     ghost use Rattle.szg_file.specs.FrontTable.{IsFrontOf};
     ghost use Rattle.szg_file.specs.Index.{slot_in};
-    ghost use Rattle.szg_file.specs.Located.{IsKeptIn};
-    ghost use Rattle.szg_file.specs.Placed.{blocks_size};
-    ghost use Rattle.szg_block.specs.Kept.{IsLocatable};
-    ghost use Rattle.szg_block.specs.Subtable.{IsHeaded};
     ghost use Rattle.szg_file.specs.Unread.{front_at, IsDecoded};
-
-    // Returns the slot of value `i` of a part's side, with its subtable.
-    #[inline(always)]
-    fn slotted(&self, part: u8, side: u8, i: u64) -> Slotted<'_>
-        requires { IsSomeAnd (slot_in self.now.index part side) (λ slot. i < slot.size) }
-        ensures below { i < result.slot.size }
-        ensures head { IsHeaded result.placed.now.sub }
-        ensures index { IsLocatable result.placed.now.sub result.slot.size }
-        ensures inside { result.placed.now.first + blocks_size result.placed.now.sub ≤ self.now.length }
-        ensures short { self.now.length < 2 ^ 64 }
-        ensures front { (content : List ℕ) (h : IsFrontOf self.now content) → IsKeptIn h.all (front_at self.now.index.material self.now.index.kind content part side) content result.slot result.placed.now }
-    {
-        let Some(found) = slotted_at(self.index.slots(), &self.subs, part, side) else {
-            unreachable!()
-        };
-        found
-    }
 
     /// Locates value `i` of a part's side: finds the block that contains it. It reads nothing.
     #[inline(always)]
@@ -201,7 +180,9 @@ impl FrontTable {
         requires { IsSomeAnd (slot_in self.now.index part side) (λ slot. i < slot.size) }
         ensures { result ≡ record { kept = self.now; part = part; side = side; index = i } }
     {
-        let found = self.slotted(part, side, i);
+        let Some(found) = slotted_at(self.index.slots(), &self.subs, part, side) else {
+            unreachable!()
+        };
         let spot = spot_of(&found, i);
         Located {
             front: self,
