@@ -20,9 +20,9 @@ use itoa::Buffer;
 use std::alloc::{AllocError, Global};
 use std::io::{Error, ErrorKind};
 use szg_build::{StreamFault, stream_dump};
-use szg_file::{NoSink, ReadFault, Scanned, SinkFault, ValueSink, scan};
+use szg_file::{NoSink, ReadFault, Scanned, ValueSink, scan};
 use szg_files::{FileFault, FileSystem, Reasons};
-use szg_io::{Input, Output};
+use szg_io::{DeviceFault, Input, Output};
 use szg_values::Material;
 use szg_words::{Action, Request, Task};
 
@@ -120,22 +120,22 @@ impl<W: Output> ValueSink<W> for LineSink {
         part == self.part && side == self.side
     }
 
-    fn put(&mut self, values: &[u16], out: &mut W) -> Result<(), SinkFault> {
+    fn put(&mut self, values: &[u16], out: &mut W) -> Result<(), DeviceFault> {
         match add_lines(&mut self.text, values, out) {
             Ok(()) => Ok(()),
             Err(stop) => {
                 self.failed = matches!(stop, Stop::Device);
-                Err(SinkFault)
+                Err(DeviceFault)
             }
         }
     }
 
-    fn put_same(&mut self, value: u16, count: u64, out: &mut W) -> Result<(), SinkFault> {
+    fn put_same(&mut self, value: u16, count: u64, out: &mut W) -> Result<(), DeviceFault> {
         match add_same(&mut self.text, value, count, out) {
             Ok(()) => Ok(()),
             Err(stop) => {
                 self.failed = matches!(stop, Stop::Device);
-                Err(SinkFault)
+                Err(DeviceFault)
             }
         }
     }

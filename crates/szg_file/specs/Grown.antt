@@ -5,7 +5,7 @@ use Rattle.szg_block.specs.declared.Sub.{Sub}
 use Rattle.szg_file.specs.declared.reading.state.ReaderState.{ReaderState}
 use Rattle.szg_file.specs.declared.reading.Opening.{Opening}
 use Rattle.szg_file.specs.declared.reading.Pieces.{Pieces}
-use Rattle.szg_file.specs.declared.reading.read_front.FrontRead.{FrontRead}
+use Rattle.szg_file.specs.declared.reading.FrontRead.{FrontRead}
 use Rattle.szg_file.specs.declared.table.PartBytes.{PartBytes}
 use Rattle.szg_file.specs.declared.table.Map.{Map}
 use Rattle.szg_file.specs.Contents.{Part}

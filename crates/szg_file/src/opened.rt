@@ -3,7 +3,6 @@
 pub(crate) mod fetching;
 pub(crate) mod forward;
 pub(crate) mod front_table;
-mod placing;
 
 ghost use Rattle.std.specs.Prelude.{◌≡◌, IsSome, IfOk, IfErr};
 ghost use Rattle.szg_block.specs.BlocksTrait.{Rose};
@@ -16,9 +15,9 @@ use crate::lookup::{Slotted, constant_value, slotted_at};
 use crate::opened::forward::Forward;
 use crate::reading::blocks::block_bytes;
 use crate::reading::dropping::PlacedSub;
-use crate::reading::outline::{Outline, read_outline};
 use crate::reading::sink::NoSink;
 use crate::reading::state::ReaderState;
+use crate::reading::{Outline, read_outline};
 use crate::table_index::{TableIndex, index_of_placed};
 use std::alloc::Global;
 use std::marker::Model;

@@ -1,10 +1,10 @@
 //! Checks of assembled subtables and maps, as a reader makes them.
-ghost use Rattle.std.specs.Prelude.{◌≡◌, ◌<◌, ◌^◌, ◌↔◌, IsTrue, length, map, option_map};
+ghost use Rattle.std.specs.Prelude.{◌<◌, ◌^◌, ◌↔◌, IsTrue, length, map, option_map};
 ghost use Rattle.szg_file.specs.Accepted.{SideBySide, AreNumbers, IsSubtable, AreLists, IsMapOf, AreMaps};
 ghost use Rattle.szg_file.specs.Held.{subtable_of, map_of};
 
 use crate::begun::Slot;
-use crate::flags::{flags_of, has_bit};
+use crate::lookup::{flags_of, has_bit};
 use crate::table::Map;
 use crate::typed::sub_fits;
 use szg_block::{Sub, check, shaped};
@@ -94,27 +94,22 @@ fn is_map_valid(sub: &Sub, map: &Option<Map>) -> bool
     }
 }
 
-/// Returns whether there is one item per subtable, and each is the one that the flags require.
-fn is_each_map_valid(subs: &[Sub], maps: &[Option<Map>]) -> bool
-    ensures { IsTrue result ↔ SideBySide IsMapOf (map subtable_of subs.now) (map (option_map map_of) maps.now) }
-{
-    if subs.len() != maps.len() {
-        return false;
-    }
-    'maps: for (n, map) in maps.iter().enumerate() {
-        if !is_map_valid(&subs[n], map) {
-            return false;
-        }
-    }
-    true
-}
-
-/// Returns whether the maps are those that the kind and the flags require.
+/// Returns whether the maps are those that the kind and the flags require: none, or one item per subtable.
 pub(crate) fn are_maps_valid(kind: Kind, subs: &[Sub], maps: &[Option<Map>]) -> bool
     ensures { IsTrue result ↔ AreMaps kind (map subtable_of subs.now) (map (option_map map_of) maps.now) }
 {
     match kind {
         Kind::Wdl => maps.is_empty(),
-        Kind::Dtz => is_each_map_valid(subs, maps),
+        Kind::Dtz => {
+            if subs.len() != maps.len() {
+                return false;
+            }
+            'maps: for (n, map) in maps.iter().enumerate() {
+                if !is_map_valid(&subs[n], map) {
+                    return false;
+                }
+            }
+            true
+        }
     }
 }

@@ -15,8 +15,8 @@ use crate::writing::outgoing::{OutgoingText, flush};
 use crate::writing::{
     put_equal, put_flags_and_map, put_front, put_number, put_parts, put_subtable_id, run_length,
 };
-use szg_file::{SinkFault, TableIndex, ValueSink, WriteFault};
-use szg_io::Output;
+use szg_file::{TableIndex, ValueSink, WriteFault};
+use szg_io::{DeviceFault, Output};
 use szg_values::Kind;
 
 // ---- the lines before a subtable's values
@@ -219,18 +219,18 @@ impl<W: Output> ValueSink<W> for DumpSink<'_> {
         true
     }
 
-    fn put(&mut self, values: &[u16], out: &mut W) -> Result<(), SinkFault> {
+    fn put(&mut self, values: &[u16], out: &mut W) -> Result<(), DeviceFault> {
         let Ok(()) = add_values(self, values, out) else {
             self.failed = true;
-            return Err(SinkFault);
+            return Err(DeviceFault);
         };
         Ok(())
     }
 
-    fn put_same(&mut self, value: u16, count: u64, out: &mut W) -> Result<(), SinkFault> {
+    fn put_same(&mut self, value: u16, count: u64, out: &mut W) -> Result<(), DeviceFault> {
         let Ok(()) = add_same(self, value, count, out) else {
             self.failed = true;
-            return Err(SinkFault);
+            return Err(DeviceFault);
         };
         Ok(())
     }

@@ -11,7 +11,7 @@ ghost use Rattle.szg_file.specs.WholeRead.{sub_lengths};
 
 use crate::begun::{Begun, Slot};
 use crate::fault::{ReadFault, Reason};
-use crate::flags::has_bit;
+use crate::lookup::has_bit;
 use crate::reading::state::{ReaderState, append};
 use crate::reading::taking::{
     read_byte, read_number, take_entries, take_field, take_numbers, take_spare,
@@ -124,13 +124,10 @@ fn read_block_bits<R: Input>(input: &mut R, state: &mut ReaderState) -> Result<u
     ensures growth { OnOk result (state.new.growth ≡ state.old.growth) }
     ensures grown { OnOk result (HasCounted state.old state.new 0 0) }
 {
-    let place = state.place;
+    let (place, reason) = (state.place, Reason::BlockBits);
     let bits = read_byte(input, state)?;
     if bits > 18 {
-        return Err(ReadFault::Refused {
-            place,
-            reason: Reason::BlockBits,
-        });
+        return Err(ReadFault::Refused { place, reason });
     }
     Ok(bits)
 }
@@ -145,13 +142,10 @@ fn read_span_bits<R: Input>(input: &mut R, state: &mut ReaderState) -> Result<u8
     ensures growth { OnOk result (state.new.growth ≡ state.old.growth) }
     ensures grown { OnOk result (HasCounted state.old state.new 0 0) }
 {
-    let place = state.place;
+    let (place, reason) = (state.place, Reason::SpanBits);
     let bits = read_byte(input, state)?;
     if bits == 0 || bits > 31 {
-        return Err(ReadFault::Refused {
-            place,
-            reason: Reason::SpanBits,
-        });
+        return Err(ReadFault::Refused { place, reason });
     }
     Ok(bits)
 }
@@ -177,7 +171,7 @@ fn read_sizes<R: Input>(input: &mut R, state: &mut ReaderState) -> Result<HeadSi
     ensures growth { OnOk result (state.new.growth ≡ state.old.growth) }
     ensures grown { OnOk result (HasCounted state.old state.new 0 0) }
 {
-    let place = state.place + 5;
+    let (place, reason) = (state.place + 5, Reason::CodeLengths);
     let mut chunk = [0; 7];
     take_field(input, state, &mut chunk)?;
     let sizes = HeadSizes {
@@ -187,10 +181,7 @@ fn read_sizes<R: Input>(input: &mut R, state: &mut ReaderState) -> Result<HeadSi
         max: chunk[5],
     };
     if sizes.min == 0 || sizes.min > sizes.max || sizes.max > 32 {
-        return Err(ReadFault::Refused {
-            place,
-            reason: Reason::CodeLengths,
-        });
+        return Err(ReadFault::Refused { place, reason });
     }
     Ok(sizes)
 }

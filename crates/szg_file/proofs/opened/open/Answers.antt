@@ -11,7 +11,7 @@ use Rattle.szg_file.specs.Index.{Index, IsIndex, index_with, slots_in}
 use Rattle.szg_file.specs.Opened.{IsOpenRefusal, IsOpened}
 use Rattle.szg_file.specs.Outline.{outlined}
 use Rattle.szg_file.specs.declared.reading.dropping.PlacedSub.{PlacedSub}
-use Rattle.szg_file.specs.declared.reading.outline.Outline.{Outline}
+use Rattle.szg_file.specs.declared.reading.Outline.{Outline}
 use Rattle.szg_file.specs.declared.opened.OpenFault.{OpenFault}
 use Rattle.szg_file.proofs.Openings.OpenedLaws.{forward_kept, opened_by, refusal_follows}
 use Rattle.szg_file.proofs.Openings.OutlinedLaws.{outline_index, outlined_index, outlined_by}
