@@ -454,7 +454,11 @@ where
         (IsTargetOf (asked_of job.entry)) (HasFailed (W.failures writer.old) (W.failures writer.new) (W.interrupted writer.new)) (writer.new ≡ writer.old) }
 {
     let CheckJob {
-        options,
+        naming,
+        allow_trailing,
+        format,
+        quiet,
+        shard,
         lists,
         logs,
         manifest,
@@ -468,8 +472,17 @@ where
     if let Err(failure) = read_lists(alloc, machine, &logs, &mut log) {
         return unread_list(failure, LineKind::Record);
     }
-    let complete = options.with(given(&lists, &sums), given(&logs, &log));
-    check_by(alloc, system, machine, complete, manifest, &paths, writer)
+    let options = CheckOptions {
+        naming,
+        allow_trailing,
+        format,
+        quiet,
+        sums: given(&lists, &sums),
+        shard,
+        log: given(&logs, &log),
+        has_manifest: manifest.is_some(),
+    };
+    check_by(alloc, system, machine, options, manifest, &paths, writer)
 }
 
 /// Runs a command line: on the files of a system where it names these, else on the reader. Of the machine it writes files,

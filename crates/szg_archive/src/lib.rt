@@ -12,9 +12,8 @@ mod log;
 mod many;
 mod one;
 mod options;
+mod reason_words;
 mod records;
-mod report_format;
-mod shard;
 mod stop;
 
 pub use check_paths::files_to_check;
@@ -27,6 +26,5 @@ pub use log::{FileState, Log};
 pub use many::{CheckReport, check_entries, check_files, check_found};
 pub use one::{CheckedFile, check_path};
 pub use options::CheckOptions;
-pub use report_format::ReportFormat;
-pub use shard::FileShard;
+pub use reason_words::reason_word;
 pub use stop::{CheckCounts, CheckStop};

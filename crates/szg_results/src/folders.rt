@@ -20,7 +20,7 @@ use std::mem::replace;
 use szg_chess::{FenRecord, Position, PositionFault};
 use szg_file::Reason;
 use szg_files::{FileFault, FileSystem};
-use szg_named::{fault_text, reason_word};
+use szg_named::fault_text;
 use szg_probe::{Distance, DistanceFault, RankedMove, probe_dtz};
 use szg_tables::{FetchedSet, FetchedTable, FetchedValue, Missing, MissingReason};
 use szg_values::{Kind, Material};
@@ -528,8 +528,7 @@ pub fn stop_text(alloc: Global, stop: &ResultStop) -> Result<String, AllocError>
             let name = material.name();
             let name = name.as_str();
             let kind = kind_word(*kind);
-            let word = reason_word(*reason);
-            format!(in alloc; "refused table {name} {kind} at {place}: {word}")
+            format!(in alloc; "refused table {name} {kind} at {place}: {reason}")
         }
         ResultStop::Failed(fault) => fault_text(alloc, fault),
         ResultStop::Memory => String::from_str(alloc, "out of memory"),
