@@ -81,10 +81,7 @@ fn is_file_option(word: &str) -> bool {
 fn build_names_files(words: &[&str]) -> bool {
     let mut is_value = false;
     'words: for word in words {
-        if is_file_option(word) {
-            return true;
-        }
-        if !is_value && !word.starts_with('-') {
+        if is_file_option(word) || (!is_value && !word.starts_with('-')) {
             return true;
         }
         is_value = matches!(*word, "--plan" | "--block" | "--span" | "--rounds");
@@ -94,16 +91,10 @@ fn build_names_files(words: &[&str]) -> bool {
 
 /// Whether the words of `check` name files or folders: it is no table's name that comes first, and no word is a kind.
 fn check_names_files(words: &[&str]) -> bool {
-    let mut first = None;
-    'words: for word in words {
-        if matches!(*word, "wdl" | "dtz") {
-            return false;
-        }
-        if first.is_none() && !word.starts_with('-') {
-            first = Some(*word);
-        }
+    if words.iter().any(|word| matches!(*word, "wdl" | "dtz")) {
+        return false;
     }
-    match first {
+    match words.iter().find(|word| !word.starts_with('-')) {
         Some(word) => Material::parse(word).is_err(),
         None => false,
     }
@@ -125,12 +116,8 @@ pub fn names_files(words: &[&str]) -> bool {
     if words[1] == "check" && check_names_files(rest) {
         return true;
     }
-    'rest: for word in rest {
-        if named_by(word).is_some() || is_file_option(word) {
-            return true;
-        }
-    }
-    false
+    rest.iter()
+        .any(|word| named_by(word).is_some() || is_file_option(word))
 }
 
 /// What the words of a command that names files ask for.
