@@ -1,7 +1,7 @@
 //! What a check reports on: files at paths, and what is below folders.
 ghost use Rattle.std.specs.Prelude.{◌≡◌, ◌++◌, IfOk, OnOk, map};
 ghost use Rattle.szg_archive.specs.Shards.{has, shard_of, taken_of};
-ghost use Rattle.szg_archive.specs.Verdicts.{AllMissing, AreListed, AreMissing, IsListedAt, file_at, listed_of};
+ghost use Rattle.szg_archive.specs.Verdicts.{AreListed, AreMissing, IsListedAt, file_at, listed_of};
 
 use crate::file_verdict::{FileVerdict, Skip};
 use std::alloc::{AllocError, Global};

@@ -21,7 +21,7 @@ pub use due::{Due, due_of};
 pub use entries::{PathToCheck, entries_at, kind_at};
 pub use file_verdict::{FileVerdict, Skip};
 pub use lines::{escaped_path, summary_line, verdict_line};
-pub use lists::{FromLines, ListFailure, read_lists};
+pub use lists::{ListFailure, read_lists};
 pub use log::{FileState, Log};
 pub use many::{CheckReport, check_entries, check_files, check_found};
 pub use one::{CheckedFile, check_path};

@@ -5,7 +5,7 @@ ghost use Rattle.szg_sums.specs.Names.{best, better, is_longer, name_of};
 
 use crate::paths::normal;
 use crate::sum::Sum;
-use std::alloc::{AllocError, AllocFailed, Global};
+use std::alloc::{AllocError, Global};
 
 /// A name in a list, with its digest.
 #[derive(Drop)]
@@ -23,25 +23,10 @@ pub struct Sums {
     listed: Vec<Listed>,
 }
 
-/// Why a list of sums isn't one.
-#[derive(Clone, Copy)]
-pub enum SumsFault {
-    /// The line of this number, from 1 on, isn't a digest and a name.
-    Line(u64),
-    /// An allocation was refused.
-    Memory,
-}
-
-impl From<AllocError> for SumsFault {
-    fn from(_failed: AllocError) -> SumsFault {
-        SumsFault::Memory
-    }
-}
-
-impl<T: Drop> From<AllocFailed<T>> for SumsFault {
-    fn from(_failed: AllocFailed<T>) -> SumsFault {
-        SumsFault::Memory
-    }
+/// What is read from lines.
+pub trait FromLines {
+    /// Adds the lines of a text; returns the number, from 1 on, of the first one that is none of its lines, if there is one.
+    fn add_lines(&mut self, alloc: Global, text: &[u8]) -> Result<Option<u64>, AllocError>;
 }
 
 impl Sums {
@@ -55,27 +40,6 @@ impl Sums {
         Sums {
             listed: Vec::new(alloc),
         }
-    }
-
-    /// Adds the lines of a list: each is a digest in hexadecimal digits, two spaces or a space and `*`, and a name; or an
-    /// algorithm, a name in parentheses, `=` and the digest. If a line begins with a backslash, its name has escapes. Empty
-    /// lines and those that begin with `#` are passed over.
-    ///
-    /// Errors: the first line that isn't one; an allocation was refused.
-    pub fn add(&mut self, alloc: Global, text: &[u8]) -> Result<(), SumsFault> {
-        let mut number = 0u64;
-        'lines: for line in text.split(|byte| *byte == b'\n') {
-            number = number.saturating_add(1);
-            let line = line.strip_suffix(b"\r".as_slice()).unwrap_or(line);
-            if line.is_empty() || line.starts_with(b"#".as_slice()) {
-                continue;
-            }
-            match listed_in(alloc, line)? {
-                Some(listed) => self.listed.push(listed)?,
-                None => return Err(SumsFault::Line(number)),
-            }
-        }
-        Ok(())
     }
 
     /// Returns the digest for a path: that of the longest name that is the path, or its end after a slash, and of several
@@ -99,6 +63,27 @@ impl Sums {
             }
         }
         Ok(names)
+    }
+}
+
+impl FromLines for Sums {
+    /// Adds the lines of a list: each is a digest in hexadecimal digits, two spaces or a space and `*`, and a name; or an
+    /// algorithm, a name in parentheses, `=` and the digest. If a line begins with a backslash, its name has escapes. Empty
+    /// lines and those that begin with `#` are passed over.
+    fn add_lines(&mut self, alloc: Global, text: &[u8]) -> Result<Option<u64>, AllocError> {
+        let mut number = 0u64;
+        'lines: for line in text.split(|byte| *byte == b'\n') {
+            number = number.saturating_add(1);
+            let line = line.strip_suffix(b"\r".as_slice()).unwrap_or(line);
+            if line.is_empty() || line.starts_with(b"#".as_slice()) {
+                continue;
+            }
+            match listed_in(alloc, line)? {
+                Some(listed) => self.listed.push(listed)?,
+                None => return Ok(Some(number)),
+            }
+        }
+        Ok(None)
     }
 }
 
