@@ -125,7 +125,7 @@ impl<'a, R: Files, P: ReadWatcher> Disk<'a, R, P> {
         ensures { failures_of self.new ≡ failures_of self.old }
     {
         match self.open_regular(path) {
-            Err(fault) if is_full(&fault) => {
+            Err(FileFault::System(error)) if is_full(error) => {
                 self.kept.clear();
                 self.open_regular(path)
             }
@@ -165,14 +165,8 @@ impl<'a, F: Read + Seek + OpenFile, P: ReadWatcher> SystemFile<'a, F, P> {
 }
 
 /// Returns whether there is no room for a further open file.
-fn is_full(fault: &FileFault) -> bool {
-    match fault {
-        FileFault::System(error) => matches!(
-            error.raw_os_error(),
-            Some(PROCESS_IS_FULL | SYSTEM_IS_FULL)
-        ),
-        _ => false,
-    }
+fn is_full(error: Error) -> bool {
+    matches!(error.raw_os_error(), Some(PROCESS_IS_FULL | SYSTEM_IS_FULL))
 }
 
 impl From<Error> for FileFault {

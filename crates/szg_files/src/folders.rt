@@ -87,7 +87,15 @@ pub fn files_below<R: Files>(
         followed: Vec::new(alloc),
         found: Vec::new(alloc),
     };
-    walk.begin(folder)?;
+    let path = String::from_str(alloc, folder.trim_end_matches('/'))?;
+    match files.metadata(folder) {
+        Ok(metadata) => walk.folders.push(Folder {
+            path,
+            node: FolderId::of(&metadata),
+            parent: None,
+        })?,
+        Err(error) => walk.add(path, Finding::Unread(FileFault::System(error)))?,
+    }
     'folders: for number in 0..usize::MAX {
         if number >= walk.folders.len() {
             break;
@@ -100,21 +108,6 @@ pub fn files_below<R: Files>(
 }
 
 impl<'a, R: Files> FolderWalk<'a, R> {
-    /// Begins with a folder.
-    fn begin(&mut self, folder: &str) -> Result<(), AllocError> {
-        let path = String::from_str(self.alloc, folder.trim_end_matches('/'))?;
-        match self.files.metadata(folder) {
-            Ok(metadata) => Ok(
-                self.folders.push(Folder {
-                    path,
-                    node: FolderId::of(&metadata),
-                    parent: None,
-                })?,
-            ),
-            Err(error) => self.add(path, Finding::Unread(FileFault::System(error))),
-        }
-    }
-
     /// Takes note of a path.
     fn add(&mut self, path: String, finding: Finding) -> Result<(), AllocError> {
         Ok(self.found.push(Below { path, finding })?)
