@@ -66,17 +66,11 @@ pub fn run_by<F: Finder, R: Input, W: Output, V: Watcher>(
     writer: &mut W,
     watcher: &mut V,
 ) -> Outcome
-    // The request that the words ask for was answered: just the file of an accepted table was read, and just its answer
-    // was written. Or a table was built: just the text of a dump was read, and just the file of an accepted table that is
-    // built of it was written.
     ensures stated { OnDone result ((task : Task) × AsksFor F.finds (map (λ word. word.now) words.now) task × IsCarriedOut R.Input W.Output task reader.old reader.new writer.old writer.new) }
-    // It was refused: it meets a refusal, and just this refusal's line was written.
     ensures refused { OnRefused result ((task : Task) × AsksFor F.finds (map (λ word. word.now) words.now) task × IsRefusedWith R.Input W.Output task reader.old reader.new writer.old writer.new) }
     ensures words { OnWords result ((reader.new ≡ reader.old) × (writer.new ≡ writer.old) × AsksForNone F.finds F.refuses (map (λ word. word.now) words.now)) }
-    // Whatever the outcome: bytes were taken with at most 1,001 calls for each of them and for one more.
     ensures calls { (bytes : List ℕ) × Takes R.Input reader.old reader.new bytes 1 }
     ensures device { (result ≡ Outcome.Device) → (HasFailed (R.failures reader.old) (R.failures reader.new) (R.interrupted reader.new) × (writer.new ≡ writer.old)) ⊎ HasFailed (W.failures writer.old) (W.failures writer.new) (W.interrupted writer.new) }
-    // Nothing was written, or, by `values` and `dump`, a beginning of the answer.
     ensures memory { (result ≡ Outcome.Memory) → (writer.new ≡ writer.old) ⊎ ((task : Task) × AsksFor F.finds (map (λ word. word.now) words.now) task × IsBegunBy R.Input W.Output task reader.old reader.new writer.old writer.new) }
 {
     let task = match parse(alloc, finder, words) {

@@ -4,15 +4,14 @@ ghost use Rattle.std.specs.Prelude.{◌≡◌, ◌⊎◌, ℕ, ◌<◌, List, �
 ghost use Rattle.szg_io.specs.Device.{HasFailed};
 ghost use Rattle.szg_io.specs.Moved.{Gives};
 ghost use Rattle.szg_file.specs.Values.{subtable_at};
-ghost use Rattle.szg_answers.specs.Answers.{IsAnswer, counted_line, number_line};
+ghost use Rattle.szg_answers.specs.Answers.{IsAnswer, number_line};
 ghost use Rattle.szg_answers.specs.Refusals.{IsRefused, index_refusal, size_at};
 ghost use Rattle.szg_answers.specs.declared.refusal.Refusal.{Refusal};
 
 use crate::refusal::{Refusal, Stop};
 use crate::saying::say;
 use crate::streaming::{add_lines, add_same};
-use std::alloc::{AllocError, Global};
-use szg_block::Steps;
+use std::alloc::Global;
 use szg_build::{BlockValues, StoredValues, stored_values};
 use szg_file::Table;
 use szg_io::Output;
@@ -50,23 +49,13 @@ pub(crate) fn get_answer(
     check_index(table, request, index)?;
     if has_steps {
         let (value, steps) = table.get_counted(request.part, request.side, index);
-        return Ok(counted_line(alloc, value, steps)?);
+        return Ok(format!(in alloc;
+            "{value} moves {} words {} descents {} fetches {}\n",
+            steps.moves, steps.words, steps.descents, steps.fetches
+        )?);
     }
     let value = table.get(request.part, request.side, index);
     Ok(format!(in alloc; "{value}\n")?)
-}
-
-/// A line of a value and the steps to it.
-fn counted_line(alloc: Global, value: u16, steps: Steps) -> Result<String, AllocError>
-    ensures { IfOk result (λ line. string_bytes line ≡ counted_line value steps) }
-{
-    let Steps {
-        moves,
-        words,
-        descents,
-        fetches,
-    } = steps;
-    format!(in alloc; "{value} moves {moves} words {words} descents {descents} fetches {fetches}\n")
 }
 
 /// Writes each value of a subtable on a line, a block's values at a time.
