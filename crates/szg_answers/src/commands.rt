@@ -208,10 +208,7 @@ fn answer_request<W: Output>(
             get_answer(alloc, table, request, *index, true),
         ),
         Action::Values => write_all_values(alloc, table, request, writer),
-        Action::Copy => match write(table, writer) {
-            Ok(()) => Ok(()),
-            Err(_) => Err(Stop::Device),
-        },
+        Action::Copy => write(table, writer).map_err(|_| Stop::Device),
         Action::Dump(form) => write_dump_text(alloc, table, *form, writer),
         Action::Index(placement) => say_line(writer, index_line(alloc, table.index(), placement)),
         Action::Probe(placement, class) => say_line(

@@ -71,19 +71,17 @@ where
     ensures digest { IfOk result (λ copy. sha256 (published_text copy) ≡ digest.now) }
     ensures target { IfOk result (λ copy. published_target copy ≡ target.now) }
 {
-    let (like, mut file) = match opened(system, files, path) {
-        Ok(opened) => opened,
-        Err(fault) => return Err(FileFailure { path, fault }),
-    };
-    let mut draft = match Draft::create(alloc, files, target) {
-        Ok(draft) => draft,
-        Err(fault) => {
-            return Err(FileFailure {
-                path: target,
-                fault,
-            });
-        }
-    };
+    let like = files.metadata(path).map_err(|error| FileFailure {
+        path,
+        fault: error.into(),
+    })?;
+    let mut file = system
+        .open(path)
+        .map_err(|fault| FileFailure { path, fault })?;
+    let mut draft = Draft::create(alloc, files, target).map_err(|fault| FileFailure {
+        path: target,
+        fault,
+    })?;
     let (path, fault) = match copy_bytes(&mut file, &mut draft.file) {
         Ok(found) if found == *digest => match published_like(draft, &like) {
             Ok(copy) => return Ok(copy),
@@ -100,16 +98,6 @@ where
         }
     };
     Err(FileFailure { path, fault })
-}
-
-/// Opens the file at a path, after its mode and time.
-fn opened<S: FileSystem, R: Files>(
-    system: &mut S,
-    files: &R,
-    path: &str,
-) -> Result<(Metadata, S::File), FileFault> {
-    let like = files.metadata(path)?;
-    Ok((like, system.open(path)?))
 }
 
 /// Makes a draft like another file, flushes it to the disk, and renames it over its target.

@@ -88,10 +88,7 @@ fn published<'a, R: Files>(
     ensures target { IfOk result (λ published. published_target published ≡ draft_target draft.entry) }
     ensures refused { (refusal : Refusal) → IsErrOf result (Stop.Refused refusal) → ⊥ }
 {
-    let sealed = match draft.seal(None) {
-        Ok(sealed) => sealed,
-        Err(fault) => return Err(failed(target, fault)),
-    };
+    let sealed = draft.seal(None).map_err(|fault| failed(target, fault))?;
     if let Some((name, kind)) = named_by(target) {
         let fault = match is_table_of(alloc, files, sealed.path(), name, kind) {
             Ok(true) => None,
@@ -103,10 +100,7 @@ fn published<'a, R: Files>(
             return Err(failed(target, fault));
         }
     }
-    match sealed.publish() {
-        Ok(published) => Ok(published),
-        Err(fault) => Err(failed(target, fault)),
-    }
+    sealed.publish().map_err(|fault| failed(target, fault))
 }
 
 /// Carries a task out on the reader, or writes the values of the file at `source` while that is read. Where it is refused
