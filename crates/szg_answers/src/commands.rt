@@ -3,7 +3,7 @@ ghost use Rattle.szg_io.specs.Device.{HasFailed};
 ghost use Rattle.szg_io.specs.Moved.{Gives, Takes};
 ghost use Rattle.szg_file.specs.Held.{file_bytes};
 ghost use Rattle.clap.specs.Values.{kind_of as kind_of_error};
-ghost use Rattle.szg_answers.specs.Answers.{IsAnswer, IsDumpText};
+ghost use Rattle.szg_answers.specs.Answers.{IsAnswer};
 ghost use Rattle.szg_words.specs.Chosen.{AsksFor, AsksForNone, IsFoundByClap, IsRefusedByClap};
 ghost use Rattle.szg_answers.specs.Outcome.{OnDone, OnRefused, OnWords};
 ghost use Rattle.szg_answers.specs.RefusalLines.{refusal_line};
@@ -27,7 +27,7 @@ use szg_build::{DumpWriteFault, Unwatched, Watcher, dump_table};
 use szg_file::{ReadFault, Table, file_len, read, write};
 use szg_io::{Input, Output};
 use szg_values::Material;
-use szg_words::{Action, Clap, DumpForm, Finder, Request, Task, parse};
+use szg_words::{Action, Clap, Finder, Request, Task, parse};
 
 /// Runs a command line: `words` begins with the program's name. The table's file, for `build` the dump, is read from
 /// `reader`, the answer is written to `writer`. Which word goes to which argument, `clap` decides.
@@ -209,7 +209,11 @@ fn answer_request<W: Output>(
         ),
         Action::Values => write_all_values(alloc, table, request, writer),
         Action::Copy => write(table, writer).map_err(|_| Stop::Device),
-        Action::Dump(form) => write_dump_text(alloc, table, *form, writer),
+        Action::Dump(form) => match dump_table(alloc, table, form.number(), writer) {
+            Ok(()) => Ok(()),
+            Err(DumpWriteFault::Output) => Err(Stop::Device),
+            Err(DumpWriteFault::Memory) => Err(Stop::Memory),
+        },
         Action::Index(placement) => say_line(writer, index_line(alloc, table.index(), placement)),
         Action::Probe(placement, class) => say_line(
             writer,
@@ -220,25 +224,5 @@ fn answer_request<W: Output>(
             placement_answer(alloc, table, request, *index),
         ),
         Action::Unplaced(fault) => Err(Stop::Refused(Refusal::Men(*fault))),
-    }
-}
-
-/// Writes the table's dump, a block's values at a time.
-fn write_dump_text<W: Output>(
-    alloc: Global,
-    table: &Table,
-    form: DumpForm,
-    writer: &mut W,
-) -> Result<(), Stop>
-    ensures stated { OnOk result ((text : List ℕ) × IsDumpText form table.now.contents text × Gives W.Output writer.old writer.new text 0) }
-    ensures device { IsErrOf result Stop.Device → HasFailed (W.failures writer.old) (W.failures writer.new) (W.interrupted writer.new) }
-    ensures only { (refusal : Refusal) → IsErrOf result (Stop.Refused refusal) → ⊥ }
-    // a beginning of the answer was written
-    ensures memory { IsErrOf result Stop.Memory → (text : List ℕ) × (rest : List ℕ) × IsDumpText form table.now.contents (text ++ rest) × Gives W.Output writer.old writer.new text 0 }
-{
-    match dump_table(alloc, table, form.number(), writer) {
-        Ok(()) => Ok(()),
-        Err(DumpWriteFault::Output) => Err(Stop::Device),
-        Err(DumpWriteFault::Memory) => Err(Stop::Memory),
     }
 }
