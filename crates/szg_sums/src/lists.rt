@@ -1,7 +1,7 @@
 //! Lists of sums, as `md5sum`, `sha1sum`, `sha256sum` and `sha512sum` write them.
 
 ghost use Rattle.std.specs.Prelude.{◌≡◌, IfOk, None, map, option_map};
-ghost use Rattle.szg_sums.specs.Names.{best, better, is_longer, name_of};
+ghost use Rattle.szg_sums.specs.Names.{best, better, name_of};
 
 use crate::paths::normal;
 use crate::sum::Sum;
@@ -87,16 +87,6 @@ impl FromLines for Sums {
     }
 }
 
-/// Whether a name that was found is longer than another one.
-fn is_longer(found: Option<&Listed>, one: &Listed) -> bool
-    ensures { result ≡ is_longer (option_map (λ other. name_of other.now) found.entry) (name_of one.now) }
-{
-    match found {
-        Some(other) => other.path.len() > one.path.len(),
-        None => false,
-    }
-}
-
 /// Returns the better name for a normal path, of the one that was found and the next.
 fn better<'a>(path: &[u8], found: Option<&'a Listed>, next: &'a Listed) -> Option<&'a Listed>
     ensures { option_map (λ one. name_of one.now) result ≡ better path.now (option_map (λ one. name_of one.now) found.entry) (name_of next.now) }
@@ -104,10 +94,14 @@ fn better<'a>(path: &[u8], found: Option<&'a Listed>, next: &'a Listed) -> Optio
     if !path.ends_with(&next.path) {
         return found;
     }
-    if is_longer(found, next) {
-        return found;
+    let Some(other) = found else {
+        return Some(next);
+    };
+    if other.path.len() > next.path.len() {
+        found
+    } else {
+        Some(next)
     }
-    Some(next)
 }
 
 /// Returns the longest name for a normal path, and of several the last.
@@ -165,27 +159,18 @@ fn plain_parts(line: &[u8]) -> Option<(&[u8], &[u8])> {
 
 /// Returns the digits and the name of a line that begins with the algorithm.
 fn tagged_parts(line: &[u8]) -> Option<(&[u8], &[u8])> {
-    let rest = after_tag(line)?;
+    let tags = [
+        b"MD5 (".as_slice(),
+        b"SHA1 (".as_slice(),
+        b"SHA256 (".as_slice(),
+        b"SHA512 (".as_slice(),
+    ];
+    let rest = tags.iter().find_map(|tag| line.strip_prefix(*tag))?;
     let length = rest.len().checked_sub(4)?;
     'ends: for less in 0..length {
         let (name, end) = rest.split_at(length - less);
         if let Some(digits) = end.strip_prefix(b") = ".as_slice()) {
             return Some((digits, name));
-        }
-    }
-    None
-}
-
-/// Returns what follows an algorithm's name and a parenthesis.
-fn after_tag(line: &[u8]) -> Option<&[u8]> {
-    'tags: for tag in [
-        b"MD5 (".as_slice(),
-        b"SHA1 (".as_slice(),
-        b"SHA256 (".as_slice(),
-        b"SHA512 (".as_slice(),
-    ] {
-        if let Some(rest) = line.strip_prefix(tag) {
-            return Some(rest);
         }
     }
     None
