@@ -153,25 +153,6 @@ where
     }
 }
 
-/// Returns the line of a file that was checked, and copied if it passed, and its verdict.
-fn copy_to<S: FileSystem, R: Files>(
-    alloc: Global,
-    system: &mut S,
-    files: &R,
-    path: &str,
-    due: Due,
-    folder: &str,
-) -> Result<(Vec<u8>, FileVerdict), AllocError>
-where
-    R::File: Lock,
-{
-    let name = Path::new(path).file_name().unwrap_or("");
-    let target = format!(in alloc; "{folder}/{name}")?;
-    let copied = copy_file(alloc, system, files, path, due, target.as_str())?;
-    let line = verdict_line(alloc, copied.path, &copied.verdict, false)?;
-    Ok((line, copied.verdict))
-}
-
 /// Copies files into a folder; writes a line of each, and a summary.
 ///
 /// Errors: `Device` if the writer failed, `Memory` if an allocation was refused.
@@ -196,11 +177,14 @@ where
     };
     'paths: for path in paths {
         let due = due_of(alloc, sums, path)?;
-        let (line, verdict) = copy_to(alloc, system, files, path, due, folder)?;
+        let name = Path::new(path).file_name().unwrap_or("");
+        let target = format!(in alloc; "{folder}/{name}")?;
+        let copied = copy_file(alloc, system, files, path, due, target.as_str())?;
+        let line = verdict_line(alloc, copied.path, &copied.verdict, false)?;
         if give_whole(writer, &line).is_err() {
             return Err(CheckStop::Device);
         }
-        counts = counts.with(&verdict, false);
+        counts = counts.with(&copied.verdict, false);
     }
     let end = summary_line(alloc, &counts)?;
     if give_whole(writer, end.as_bytes()).is_err() {
