@@ -1,6 +1,6 @@
 //! The commands that look values up.
 
-ghost use Rattle.std.specs.Prelude.{◌≡◌, ◌⊎◌, ℕ, ◌<◌, List, ◌++◌, flat_map, Some, None, IsSome, IfSome, IfErr, OnOk, IfOk, Err, IsErrOf, replicate, string_bytes, if◌then◌else◌};
+ghost use Rattle.std.specs.Prelude.{◌≡◌, ◌⊎◌, ℕ, ◌<◌, List, ◌++◌, flat_map, Some, None, IsSome, IfSome, IfErr, OnOk, IfOk, Err, IsErrOf, string_bytes, if◌then◌else◌};
 ghost use Rattle.szg_io.specs.Device.{HasFailed};
 ghost use Rattle.szg_io.specs.Moved.{Gives};
 ghost use Rattle.szg_file.specs.Values.{subtable_at};
@@ -75,21 +75,13 @@ pub(crate) fn write_all_values<W: Output>(
         return Err(Stop::Refused(Refusal::Part));
     };
     match stored {
-        StoredValues::Same { value, count } => say_same(alloc, count, value, writer),
+        StoredValues::Same { value, count } => {
+            let mut text = Vec::new(alloc);
+            add_same(&mut text, value, count, writer)?;
+            say(writer, &text)
+        }
         StoredValues::Blocks(mut blocks) => say_blocks(alloc, &mut blocks, writer),
     }
-}
-
-/// Writes a value `count` times, each time on a line, in large pieces. It takes no memory for the values.
-fn say_same<W: Output>(alloc: Global, count: u64, value: u16, writer: &mut W) -> Result<(), Stop>
-    ensures given { OnOk result (Gives W.Output writer.old writer.new (flat_map number_line (replicate count value)) 0) }
-    ensures device { IsErrOf result Stop.Device → HasFailed (W.failures writer.old) (W.failures writer.new) (W.interrupted writer.new) }
-    ensures only { (refusal : Refusal) → IsErrOf result (Stop.Refused refusal) → ⊥ }
-    ensures memory { IsErrOf result Stop.Memory → (text : List ℕ) × (rest : List ℕ) × (text ++ rest ≡ flat_map number_line (replicate count value)) × Gives W.Output writer.old writer.new text 0 }
-{
-    let mut text = Vec::new(alloc);
-    add_same(&mut text, value, count, writer)?;
-    say(writer, &text)
 }
 
 /// Writes each value of blocks on a line, in large pieces. It takes memory for the values of one block.
