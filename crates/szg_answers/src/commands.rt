@@ -8,7 +8,7 @@ ghost use Rattle.szg_words.specs.Chosen.{AsksFor, AsksForNone, IsFoundByClap, Is
 ghost use Rattle.szg_answers.specs.Outcome.{OnDone, OnRefused, OnWords};
 ghost use Rattle.szg_answers.specs.RefusalLines.{refusal_line};
 ghost use Rattle.szg_answers.specs.Refusals.{IsRefused};
-ghost use Rattle.szg_answers.specs.Requests.{IsAnswered, IsBegun, IsBegunBy, IsCarriedOut, IsListed, IsRefusedWith, IsTableOf, IsUnread, IsRefusedOf, Meets, unplaced_refusal};
+ghost use Rattle.szg_answers.specs.Requests.{IsBegunBy, IsCarriedOut, IsListed, IsRefusedWith, IsTableOf, IsUnread, Meets, unplaced_refusal};
 ghost use Rattle.szg_answers.specs.declared.refusal.Refusal.{Refusal};
 ghost use Rattle.szg_words.specs.declared.request.Task.{Task};
 
@@ -131,28 +131,12 @@ pub(crate) fn carry_out<R: Input, W: Output, V: Watcher>(
     ensures memory { IsErrOf result Stop.Memory → (writer.new ≡ writer.old) ⊎ IsBegunBy R.Input W.Output task.now reader.old reader.new writer.old writer.new }
 {
     match task {
-        Task::OnTable(request) => answer(alloc, request, reader, writer),
+        Task::OnTable(request) => {
+            let table = read_requested(alloc, request, reader)?;
+            answer_request(alloc, &table, request, writer)
+        }
         Task::Build(plan) => build_and_write(alloc, choice_of(*plan), reader, writer, watcher),
     }
-}
-
-/// Reads the table and writes the request's answer, or returns why not; where it is refused nothing was written.
-fn answer<R: Input, W: Output>(
-    alloc: Global,
-    request: &Request,
-    reader: &mut R,
-    writer: &mut W,
-) -> Result<(), Stop>
-    // Just the file of an accepted table was read, and just its answer was written.
-    ensures stated { OnOk result (IsAnswered R.Input W.Output request.now reader.old reader.new writer.old writer.new) }
-    ensures calls { (bytes : List ℕ) × Takes R.Input reader.old reader.new bytes 1 }
-    ensures device { IsErrOf result Stop.Device → (HasFailed (R.failures reader.old) (R.failures reader.new) (R.interrupted reader.new) × (writer.new ≡ writer.old)) ⊎ HasFailed (W.failures writer.old) (W.failures writer.new) (W.interrupted writer.new) }
-    ensures refused { (refusal : Refusal) → IsErrOf result (Stop.Refused refusal) → (writer.new ≡ writer.old)
-        × (IsUnread R.Input request.now reader.old reader.new refusal ⊎ IsRefusedOf R.Input request.now reader.old reader.new refusal) }
-    ensures memory { IsErrOf result Stop.Memory → (writer.new ≡ writer.old) ⊎ IsBegun R.Input W.Output request.now reader.old reader.new writer.old writer.new }
-{
-    let table = read_requested(alloc, request, reader)?;
-    answer_request(alloc, &table, request, writer)
 }
 
 /// Reads the table of the request's name and kind.
