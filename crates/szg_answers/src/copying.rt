@@ -17,7 +17,7 @@ use szg_archive::{
     read_lists, summary_line, verdict_line,
 };
 use szg_build::StreamFault;
-use szg_files::{Draft, FileFault, FileSystem, Lock, Published, Reasons, is_folder};
+use szg_files::{Draft, FileFault, FileSystem, Lock, Published, Reasons};
 use szg_io::{Input, Output, give_whole, take_whole};
 use szg_sums::{Hasher, Sha256, Sums, sha256_of};
 use szg_words::{CopyWords, same_name_error};
@@ -210,13 +210,10 @@ where
 {
     let folder: &'a str = asked.folder;
     let paths = asked.files.as_slice();
-    match is_folder(files, folder) {
-        Ok(true) => {}
-        Ok(false) => return failed_ending(
-            folder,
-            FileFault::System(ErrorKind::NotADirectory.into()),
-        ),
-        Err(fault) => return failed_ending(folder, fault),
+    match files.metadata(folder) {
+        Ok(found) if found.is_dir() => {}
+        Ok(_) => return failed_ending(folder, FileFault::System(ErrorKind::NotADirectory.into())),
+        Err(error) => return failed_ending(folder, error.into()),
     }
     match same_name_error(alloc, paths) {
         Ok(None) => {}

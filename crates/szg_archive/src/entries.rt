@@ -9,7 +9,7 @@ use std::fs;
 use std::io::Read;
 use std::path::Path;
 use std::rt::Files;
-use szg_files::{Below, Finding, files_below, is_folder};
+use szg_files::{Below, Finding, files_below};
 use szg_named::{FileShard, named_by};
 use szg_sums::{Sums, normal};
 use szg_values::{Kind, Material};
@@ -122,12 +122,12 @@ fn entries_at_path<R: Files>(
     if named_by(path).is_some() {
         return files_at(alloc, &[path]);
     }
-    match is_folder(files, path) {
-        Ok(true) => entries_below(alloc, files, path),
-        Ok(false) => files_at(alloc, &[path]),
-        Err(fault) => {
+    match files.metadata(path) {
+        Ok(found) if found.is_dir() => entries_below(alloc, files, path),
+        Ok(_) => files_at(alloc, &[path]),
+        Err(error) => {
             let mut entries = Vec::new(alloc);
-            let note = Some(FileVerdict::Unopened(fault));
+            let note = Some(FileVerdict::Unopened(error.into()));
             entries.push(PathToCheck::new(alloc, path, note)?)?;
             Ok(entries)
         }

@@ -68,11 +68,6 @@ struct FolderWalk<'a, R: Files> {
     found: Vec<Below>,
 }
 
-/// Returns whether a path is that of a folder, or of a link to one. Errors: the system's reason.
-pub fn is_folder<R: Files>(files: &R, path: &str) -> Result<bool, FileFault> {
-    Ok(files.metadata(path)?.is_dir())
-}
-
 /// Returns all that is below a folder and is no folder, and the folders that weren't read, in the byte order of their paths.
 /// A link to a folder is followed once, and not if it leads to a folder that it is in.
 pub fn files_below<R: Files>(
