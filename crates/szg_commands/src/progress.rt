@@ -53,12 +53,8 @@ struct Pace {
 impl WalkSeen {
     /// Returns the pace of a walk up to now: `rest` of the numbers that place positions are left.
     fn pace(&self, now: Instant, done: u64, positions: u64, rest: u64) -> Pace {
-        let elapsed = now.duration_since(self.began);
-        let millis = elapsed
-            .as_secs()
-            .saturating_mul(1000)
-            .saturating_add(u64::from(elapsed.subsec_millis()))
-            .max(1);
+        let millis = now.duration_since(self.began).as_millis();
+        let millis = u64::try_from(millis).unwrap_or(u64::MAX).max(1);
         let numbers = done.saturating_sub(self.done).saturating_mul(1000) / millis;
         let positions = positions.saturating_sub(self.positions);
         Pace {
@@ -71,15 +67,12 @@ impl WalkSeen {
 impl Display for Pace {
     fn fmt<W: fmt::Write>(&self, f: &mut Formatter<W>) -> fmt::Result {
         let Pace { rate, left } = *self;
-        if left < 120 {
-            write!(f, "{rate} a second, {left} s left")
-        } else if left < 7200 {
-            let minutes = left / 60;
-            write!(f, "{rate} a second, {minutes} min left")
-        } else {
-            let hours = left / 3600;
-            write!(f, "{rate} a second, {hours} h left")
-        }
+        let (left, unit) = match left {
+            0..=119 => (left, "s"),
+            120..=7199 => (left / 60, "min"),
+            _ => (left / 3600, "h"),
+        };
+        write!(f, "{rate} a second, {left} {unit} left")
     }
 }
 
@@ -220,17 +213,6 @@ struct ReadSoFar {
     is_shown: bool,
 }
 
-impl ReadSoFar {
-    /// Returns the megabytes that were read in a second up to now.
-    fn rate(&self, now: Instant) -> u64 {
-        let millis = match self.began {
-            Some(began) => now.duration_since(began).as_millis().max(1),
-            None => 1,
-        };
-        self.bytes / 1000 / u64::try_from(millis).unwrap_or(u64::MAX).max(1)
-    }
-}
-
 /// Shows on standard error how many files and bytes were read, and how fast: one line, as `ProgressLine` does.
 #[derive(Drop)]
 pub struct ReadLine<'a, E, C> {
@@ -275,12 +257,15 @@ impl<'a, E: Eprint, C: Clock> ReadLine<'a, E, C> {
         let mut so_far = self.so_far.get();
         so_far.files = so_far.files.saturating_add(files);
         so_far.bytes = so_far.bytes.saturating_add(bytes);
-        so_far.began = so_far.began.or(Some(now));
+        let began = so_far.began.unwrap_or(now);
+        so_far.began = Some(began);
         let written = so_far.written.unwrap_or(now);
         so_far.written = Some(written);
         if now.duration_since(written) >= Duration::from_millis(PAUSE_MILLIS) {
             let ReadSoFar { files, bytes, .. } = so_far;
-            let (megabytes, rate) = (bytes / 1_000_000, so_far.rate(now));
+            let megabytes = bytes / 1_000_000;
+            let millis = now.duration_since(began).as_millis();
+            let rate = bytes / 1000 / u64::try_from(millis).unwrap_or(u64::MAX).max(1);
             let _ = eprint!(self.errors;
                 "{ERASE}files {files}, {megabytes} MB, {rate} MB a second"
             );
