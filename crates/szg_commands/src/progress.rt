@@ -41,41 +41,6 @@ struct WalkSeen {
     positions: u64,
 }
 
-/// How fast a walk goes.
-#[derive(Clone, Copy)]
-struct Pace {
-    /// Positions in a second.
-    rate: u64,
-    /// The seconds until the walk ends, if it goes on so.
-    left: u64,
-}
-
-impl WalkSeen {
-    /// Returns the pace of a walk up to now: `rest` of the numbers that place positions are left.
-    fn pace(&self, now: Instant, done: u64, positions: u64, rest: u64) -> Pace {
-        let millis = now.duration_since(self.began).as_millis();
-        let millis = u64::try_from(millis).unwrap_or(u64::MAX).max(1);
-        let numbers = done.saturating_sub(self.done).saturating_mul(1000) / millis;
-        let positions = positions.saturating_sub(self.positions);
-        Pace {
-            rate: positions.saturating_mul(1000) / millis,
-            left: rest / numbers.max(1),
-        }
-    }
-}
-
-impl Display for Pace {
-    fn fmt<W: fmt::Write>(&self, f: &mut Formatter<W>) -> fmt::Result {
-        let Pace { rate, left } = *self;
-        let (left, unit) = match left {
-            0..=119 => (left, "s"),
-            120..=7199 => (left / 60, "min"),
-            _ => (left / 3600, "h"),
-        };
-        write!(f, "{rate} a second, {left} {unit} left")
-    }
-}
-
 /// Shows on standard error how far a build or a verification has come: one line, which is rewritten, and erased at the end. Nothing is
 /// written if standard error is no terminal. It is ignored if a text can't be written.
 #[derive(Drop)]
@@ -123,6 +88,36 @@ impl<'a, E: Eprint, C: Clock> ProgressLine<'a, E, C> {
             }
             _ => false,
         }
+    }
+
+    /// Writes how far a walk has come, the positions in a second, and the time that is left if it goes on so.
+    fn show_walk(
+        &self,
+        walk: WalkSeen,
+        now: Instant,
+        material: &Material,
+        done: u64,
+        to: u64,
+        positions: u64,
+    ) {
+        let millis = now.duration_since(walk.began).as_millis();
+        let millis = u64::try_from(millis).unwrap_or(u64::MAX).max(1);
+        let numbers = done.saturating_sub(walk.done).saturating_mul(1000) / millis;
+        let rate = positions
+            .saturating_sub(walk.positions)
+            .saturating_mul(1000)
+            / millis;
+        let left = to.saturating_sub(done) / numbers.max(1);
+        let (left, unit) = match left {
+            0..=119 => (left, "s"),
+            120..=7199 => (left / 60, "min"),
+            _ => (left / 3600, "h"),
+        };
+        let name = material.name();
+        let name = name.as_str();
+        let _ = eprint!(self.errors;
+            "{ERASE}{name}: {positions} positions, {rate} a second, {left} {unit} left"
+        );
     }
 }
 
@@ -184,10 +179,7 @@ impl<'a, E: Eprint, C: Clock> WalkWatcher for ProgressLine<'a, E, C> {
         };
         if self.is_late(Some(now)) {
             self.written = Some(now);
-            let pace = walk.pace(now, done, positions, to.saturating_sub(done));
-            let name = material.name();
-            let name = name.as_str();
-            let _ = eprint!(self.errors; "{ERASE}{name}: {positions} positions, {pace}");
+            self.show_walk(walk, now, material, done, to, positions);
         }
     }
 }
