@@ -4,7 +4,8 @@ use Rattle.szg_values.specs.declared.PlacementFault.{PlacementFault}
 use Rattle.szg_values.specs.declared.PlacementFault.TheVariants as placements
 use Rattle.szg_file.specs.declared.fault.MapFault.{MapFault}
 use Rattle.szg_file.specs.declared.fault.MapFault.TheVariants as maps
-use Rattle.szg_named.specs.Texts.{name_word, reason_word}
+use Rattle.szg_named.specs.Texts.{name_word}
+use Rattle.szg_archive.specs.ReasonWords.{reason_word}
 use Rattle.szg_place.specs.declared.PlaceFault.{PlaceFault}
 use Rattle.szg_place.specs.declared.PlaceFault.TheVariants as places
 use Rattle.szg_build.specs.declared.BuildFault.{BuildFault}

@@ -4,9 +4,10 @@ ghost use Rattle.szg_answers.specs.RefusalLines.{numbered_line, refusal_line, re
 
 use crate::refusal::Refusal;
 use std::alloc::{AllocError, Global};
+use szg_archive::reason_word;
 use szg_build::{BuildFault, DumpFault};
 use szg_file::MapFault;
-use szg_named::{name_word, reason_word};
+use szg_named::name_word;
 use szg_place::PlaceFault;
 use szg_values::PlacementFault;
 use szg_words::MenFault;

@@ -12,7 +12,6 @@ use crate::log::FileState;
 use crate::one::{CheckedFile, check_path};
 use crate::options::CheckOptions;
 use crate::records::{Timing, json_summary, report_line, sum_line};
-use crate::report_format::ReportFormat;
 use crate::stop::{CheckCounts, CheckStop};
 use std::alloc::{AllocError, Global};
 use std::os::unix::fs::MetadataExt;
@@ -20,6 +19,7 @@ use std::rt::Files;
 use std::time::{Clock, Duration, Instant};
 use szg_files::FileSystem;
 use szg_io::{Output, give_whole};
+use szg_named::ReportFormat;
 
 /// What a check has found: the numbers of files, and, if it is asked for, a list of the SHA-256 digests of those that passed.
 #[derive(Drop)]

@@ -5,11 +5,11 @@ ghost use Rattle.szg_archive.specs.Records.{IsReasonField, IsReportLine, bytes_f
 
 use crate::file_verdict::FileVerdict;
 use crate::lines::{EMPTY, NO_TEXT, escaped_in, path_text, skip_reason, verdict_line};
-use crate::report_format::ReportFormat;
+use crate::reason_words::reason_word;
 use crate::stop::CheckCounts;
 use std::alloc::{AllocError, Global};
 use std::time::Duration;
-use szg_named::{error_text, fault_text, name_word, reason_word};
+use szg_named::{ReportFormat, error_text, fault_text, name_word};
 
 /// The word for what a file's check says: `ok`, `refused`, `unread`, `kept` or `skipped`.
 fn verdict_word(verdict: &FileVerdict, allow_trailing: bool) -> &'static str

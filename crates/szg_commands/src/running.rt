@@ -2,7 +2,7 @@
 ghost use Rattle.std.specs.Prelude.{◌≡◌, IfOk, OnErr, OnOk, map, string_bytes};
 
 use crate::progress::ReadLine;
-use crate::results::run_results;
+use crate::results::{outcome_of, write_results};
 use crate::statuses::{ending_status, status_of};
 use crate::verification::run_verify;
 use std::alloc::{AllocError, Global};
@@ -28,11 +28,7 @@ pub fn words_given(rt: &(impl Env + AllocGlobal)) -> io::Result<Vec<String>> {
 fn texts_of<'a>(alloc: Global, words: &'a [String]) -> Result<Vec<&'a str>, AllocError>
     ensures { IfOk result (λ texts. map (λ text. text.now) texts.items ≡ map (λ word. string_bytes word) words.now) }
 {
-    let mut texts = Vec::new(alloc);
-    'words: for word in words {
-        texts.push(word.as_str())?;
-    }
-    Ok(texts)
+    words.iter().map(|word| word.as_str()).collect(alloc)
 }
 
 /// The ending of a run after the last flush of the output: a device's failure if the flush failed.
@@ -67,14 +63,8 @@ fn print_meant(rt: &(impl Eprint + AllocGlobal), texts: &[&str]) {
     }
 }
 
-/// Prints on standard error the class for which a DTZ table is probed if the words give none.
-pub fn print_assumed_class(rt: &(impl Eprint + AllocGlobal), words: &[String]) {
-    if assumes_win(words) {
-        let _ = eprintln!(rt; "this is the number of a win: for another class give --class");
-    }
-}
-
-/// Runs the words of a command line on a machine's files, on an input and an output; faults are printed on standard error.
+/// Runs the words of a command line on a machine's files, on an input and an output; faults, and the class for which a DTZ table
+/// is probed if the words give none, are printed on standard error.
 /// `watcher` sees a build or a verification, and `reads` shows what is read of files. `is_terminal` says whether the output is a
 /// terminal.
 pub fn run_given<D: Files + Clock>(
@@ -94,7 +84,8 @@ where
         return status_of(rt, &Outcome::Memory);
     };
     if let Some(asked) = probe_of(texts.as_slice()) {
-        return run_results(rt, machine, asked, is_terminal, input, output);
+        let written = write_results(rt.alloc(), machine, asked, is_terminal, input, output);
+        return status_of(rt, &outcome_of(written));
     }
     match verification_of(rt.alloc(), texts.as_slice()) {
         Ok(Some(asked)) => return run_verify(rt, machine, &asked, output, watcher),
@@ -114,7 +105,11 @@ where
     if is_refused(&ending) && !is_closed {
         print_meant(rt, texts.as_slice());
     }
-    ending_status(rt, ending, is_closed)
+    let status = ending_status(rt, ending, is_closed);
+    if status == ExitCode::SUCCESS && assumes_win(words) {
+        let _ = eprintln!(rt; "this is the number of a win: for another class give --class");
+    }
+    status
 }
 
 /// An output whose lines come above what a terminal shows of reads.

@@ -5,8 +5,8 @@ use Rattle.std.specs.Str.{bytes_eq}
 use Rattle.clap.specs.Matches.{first_value, matched_of, raw_values}
 use Rattle.clap.specs.declared.parser.matches.Found.{Found}
 use Rattle.szg_values.specs.Placement.{Board}
-use Rattle.szg_archive.specs.declared.report_format.ReportFormat.{ReportFormat}
-use Rattle.szg_archive.specs.declared.report_format.ReportFormat.TheVariants as reports
+use Rattle.szg_named.specs.declared.checks.ReportFormat.{ReportFormat}
+use Rattle.szg_named.specs.declared.checks.ReportFormat.TheVariants as reports
 use Rattle.szg_words.specs.Men.{parsed_placement}
 use Rattle.szg_words.specs.Words.{parsed_class, parsed_form, is_word, parsed_kind, parsed_mover, number_from, parsed_part, parsed_side, word_of}
 use Rattle.szg_words.specs.declared.men.MenFault.{MenFault}

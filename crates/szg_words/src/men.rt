@@ -2,7 +2,7 @@
 
 ghost use Rattle.std.specs.Prelude.{◌≡◌, ◌≤◌, IsTrue, length};
 ghost use Rattle.std.specs.List.{list_all};
-ghost use Rattle.szg_words.specs.Men.{parsed_color, is_man_word, parsed_man, parsed_placement, parsed_square, placed_men_in, placed_man_of};
+ghost use Rattle.szg_words.specs.Men.{is_man_word, parsed_man, parsed_placement, parsed_square, placed_men_in, placed_man_of};
 
 use arrayvec::ArrayVec;
 use szg_values::{Color, MAX_MEN, Man, Placement, PlacementFault, Square};
@@ -30,10 +30,7 @@ pub fn placement_in(words: &[&str], mover: Color) -> Result<Placement, MenFault>
         return Err(MenFault::Placement(PlacementFault::Men));
     }
     let men = men_in(words);
-    match Placement::new(men.as_slice(), mover) {
-        Ok(placement) => Ok(placement),
-        Err(fault) => Err(MenFault::Placement(fault)),
-    }
+    Placement::new(men.as_slice(), mover).map_err(MenFault::Placement)
 }
 
 /// Returns whether each word is a man's.
@@ -76,18 +73,12 @@ fn man_in(word: &str) -> Option<(Man, Color, Square)>
     };
     let square = square_in(*file, *rank)?;
     let man = Man::of_letter(letter.to_ascii_uppercase())?;
-    Some((man, color_in(*letter), square))
-}
-
-/// The colour of a letter.
-fn color_in(letter: u8) -> Color
-    ensures { result ≡ parsed_color letter }
-{
-    if letter.is_ascii_uppercase() {
+    let color = if letter.is_ascii_uppercase() {
         Color::White
     } else {
         Color::Black
-    }
+    };
+    Some((man, color, square))
 }
 
 /// The square of a file's letter and a rank's digit.

@@ -1,4 +1,4 @@
-//! How a report is written.
+//! How a check of files is asked for.
 
 /// How the report of a check is written.
 #[derive(Clone, Copy)]
@@ -9,4 +9,12 @@ pub enum ReportFormat {
     Tsv,
     /// The same record as a JSON object, one object a line.
     Json,
+}
+
+/// One of `count` runs that share the files out: every `count`-th in their order, beginning with that of this number, from 1
+/// on.
+#[derive(Clone, Copy)]
+pub struct FileShard {
+    pub number: u64,
+    pub count: u64,
 }
