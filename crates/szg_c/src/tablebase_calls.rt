@@ -1,10 +1,10 @@
 //! Calls on a tablebase: tables are added by their bytes, and positions are probed with their captures, the right to
 //! capture en passant and the fifty-move counter.
-ghost use Rattle.std.specs.Prelude.{◌≡◌, ◌≤◌, ◌⊎◌, ◌++◌, [], Err, IfErr, IfNone, IfOk, IfSome, MatchResult, Ok, drop, length, map};
+ghost use Rattle.std.specs.Prelude.{◌≡◌, ◌≤◌, ◌⊎◌, ◌++◌, [], Err, IfErr, IfOk, IfSome, MatchResult, Ok, drop, length, map};
 ghost use Rattle.std.specs.declared.option.Option.TheVariants.{None, Some};
 ghost use Rattle.szg_file.specs.Unread.{unread_file};
 ghost use Rattle.szg_c.specs.Reported.{Stops};
-ghost use Rattle.szg_c.specs.Tablebases.{IsAdded, IsClassProbed, IsDistanceProbed, IsMissingReported, IsRankedWritten, IsTableOf, files_of, promotion_code, raw_move};
+ghost use Rattle.szg_c.specs.Tablebases.{IsAdded, IsClassProbed, IsDistanceProbed, IsMissingReported, IsRankedWritten, IsTableOf, files_of, raw_move};
 ghost use Rattle.szg_c_positions.specs.Positions.{position_of};
 
 use crate::handle::{put, share, shut, take};
@@ -21,7 +21,7 @@ use szg_c_positions::{RawMan, position_of};
 use szg_chess::Position;
 use szg_probe::{DistanceFault, RankedMove, probe_dtz, probe_wdl, rank_moves};
 use szg_tables::{MappedSet, MappedTable, Missing, MissingReason, number_of_class};
-use szg_values::{Kind, Man};
+use szg_values::Kind;
 
 /// What a tablebase does not have for a position.
 #[repr(C)]
@@ -91,20 +91,6 @@ fn opened(
     }
 }
 
-/// Takes the tables of a tablebase; a set of no table, if it has none. None if memory is refused.
-fn take_tables(alloc: Global, tablebase: &mut HeldTablebase) -> Option<Box<MappedSet<'static>>>
-    ensures tables { IfSome result (λ tables. tables.value ≡ files_of tablebase.old.value) }
-    ensures kept { IfNone result (tablebase.new.value ≡ tablebase.old.value) }
-{
-    match take(tablebase, alloc) {
-        Some(tables) => Some(tables),
-        None => match Box::new(alloc, MappedSet::of(Vec::new(alloc))) {
-            Ok(tables) => Some(tables),
-            Err(_) => None,
-        },
-    }
-}
-
 /// Adds a table to a tablebase, behind the others: that of this name and kind whose file the bytes are. It reads and checks
 /// all but the blocks. The bytes stay the caller's, and must be there and unchanged as long as a tablebase has the table.
 /// Tablebases that share the other tables do not get it.
@@ -128,8 +114,12 @@ pub extern "C" fn szg_tablebase_add(
         Ok(table) => table,
         Err(status) => return status,
     };
-    let Some(mut tables) = take_tables(alloc, tablebase) else {
-        return MEMORY;
+    let mut tables = match take(tablebase, alloc) {
+        Some(tables) => tables,
+        None => match Box::new(alloc, MappedSet::of(Vec::new(alloc))) {
+            Ok(tables) => tables,
+            Err(_) => return MEMORY,
+        },
     };
     let added = tables.push(table);
     put(tablebase, tables);
@@ -336,21 +326,15 @@ fn raw_move(ranked: &RankedMove) -> RawMove
     RawMove {
         from: ranked.m.from.number(),
         to: ranked.m.to.number(),
-        promotion: promotion_code(ranked.m.promotion),
+        promotion: match ranked.m.promotion {
+            Some(man) => man.code(),
+            None => 0,
+        },
         class: number_of_class(ranked.distance.class),
         dtz: ranked.distance.signed(),
         zeroing: ranked.zeroing,
         mate: ranked.mate,
         stalemate: ranked.stalemate,
-    }
-}
-
-fn promotion_code(promotion: Option<Man>) -> u8
-    ensures { result ≡ promotion_code promotion }
-{
-    match promotion {
-        Some(man) => man.code(),
-        None => 0,
     }
 }
 
