@@ -1,8 +1,10 @@
 //! Calls on a tablebase: tables are added by their bytes, and positions are probed with their captures, the right to
 //! capture en passant and the fifty-move counter.
-ghost use Rattle.std.specs.Prelude.{◌≡◌, ◌≤◌, ◌⊎◌, ◌++◌, [], Err, IfErr, IfOk, IfSome, MatchResult, Ok, drop, length, map};
+ghost use Rattle.std.specs.Prelude.{◌≡◌, ◌≤◌, ◌⊎◌, ◌++◌, [], Err, IfErr, IfOk, IfSome, List, MatchResult, Ok, drop, length, map};
+ghost use Rattle.std.specs.Fn.{CalledAtMut};
 ghost use Rattle.std.specs.declared.option.Option.TheVariants.{None, Some};
 ghost use Rattle.szg_file.specs.Unread.{unread_file};
+ghost use Rattle.szg_mapped.specs.InPlace.{InPlace};
 ghost use Rattle.szg_c.specs.Reported.{Stops};
 ghost use Rattle.szg_c.specs.Tablebases.{IsAdded, IsClassProbed, IsDistanceProbed, IsMissingReported, IsRankedWritten, IsTableOf, files_of, raw_move};
 ghost use Rattle.szg_c_positions.specs.Positions.{position_of};
@@ -89,6 +91,35 @@ fn opened(
         Ok(table) => Ok(table),
         Err(fault) => Err(fault_status(fault, answer)),
     }
+}
+
+/// Calls a function with the tables of a tablebase, or with no tables if it has none; returns the function's status.
+#[inline(always)]
+pub(crate) fn with_tables<F: FnMut(&mut MappedSet) -> u32>(
+    alloc: Global,
+    tablebase: &mut HeldTablebase,
+    function: &mut F,
+) -> u32
+    requires { F.IsAlwaysCallable function.old }
+    ensures { (left : List InPlace) × CalledAtMut F.FnMut function.old (files_of tablebase.old.value) result function.new left
+        × (left ≡ files_of tablebase.old.value → tablebase.new.value ≡ tablebase.old.value) }
+{
+    let Some(mut held) = take(tablebase, alloc) else {
+        return with_no_tables(alloc, function);
+    };
+    let status = function(&mut held);
+    put(tablebase, held);
+    status
+}
+
+/// Calls a function with no tables. It is a function of its own, so that only it has room for a set.
+#[cold]
+#[inline(never)]
+fn with_no_tables<F: FnMut(&mut MappedSet) -> u32>(alloc: Global, function: &mut F) -> u32
+    requires { F.IsAlwaysCallable function.old }
+    ensures { (left : List InPlace) × CalledAtMut F.FnMut function.old [] result function.new left }
+{
+    function(&mut MappedSet::of(Vec::new(alloc)))
 }
 
 /// Adds a table to a tablebase, behind the others: that of this name and kind whose file the bytes are. It reads and checks
@@ -178,7 +209,7 @@ fn report_missing(missing: Missing, lack: &mut RawMissing) -> u32
 
 /// Writes the class of a position by a set of tables; returns the status.
 pub(crate) fn class_in(
-    set: &mut MappedSet<'static>,
+    set: &mut MappedSet<'_>,
     position: &Position,
     class: &mut i8,
     lack: &mut RawMissing,
@@ -194,16 +225,6 @@ pub(crate) fn class_in(
         }
         Err(missing) => report_missing(missing, lack),
     }
-}
-
-/// The same by no tables. It is a function of its own, so that only it has room for a set.
-#[cold]
-#[inline(never)]
-fn class_in_none(alloc: Global, position: &Position, class: &mut i8, lack: &mut RawMissing) -> u32
-    ensures reported { IsClassProbed [] position.now result class.new lack.old lack.new }
-    ensures class_stays { (result ≡ 0 → ⊥) → class.new ≡ class.old }
-{
-    class_in(&mut MappedSet::of(Vec::new(alloc)), position, class, lack)
 }
 
 /// Probes the class of a position for the side to move (2 win, 1 cursed win, 0 draw, -1 blessed loss, -2 loss), from the
@@ -232,17 +253,13 @@ pub extern "C" fn szg_tablebase_wdl(
         Ok(position) => position,
         Err(status) => return status,
     };
-    let Some(mut held) = take(tablebase, alloc) else {
-        return class_in_none(alloc, &position, class, lack);
-    };
-    let status = class_in(&mut held, &position, class, lack);
-    put(tablebase, held);
-    status
+    let mut look = |set: &mut MappedSet| class_in(set, &position, class, lack);
+    with_tables(alloc, tablebase, &mut look)
 }
 
 /// Writes the class and the DTZ of a position by a set of tables; returns the status.
 fn distance_in(
-    set: &mut MappedSet<'static>,
+    set: &mut MappedSet<'_>,
     position: &Position,
     counter: u32,
     distance: &mut RawDistance,
@@ -261,28 +278,6 @@ fn distance_in(
         Err(DistanceFault::Tables(missing)) => report_missing(missing, lack),
         Err(DistanceFault::Contradiction) => CONTRADICTION,
     }
-}
-
-/// The same by no tables.
-#[cold]
-#[inline(never)]
-fn distance_in_none(
-    alloc: Global,
-    position: &Position,
-    counter: u32,
-    distance: &mut RawDistance,
-    lack: &mut RawMissing,
-) -> u32
-    ensures reported { IsDistanceProbed [] counter position.now result distance.new lack.old lack.new }
-    ensures distance_stays { (result ≡ 0 → ⊥) → distance.new ≡ distance.old }
-{
-    distance_in(
-        &mut MappedSet::of(Vec::new(alloc)),
-        position,
-        counter,
-        distance,
-        lack,
-    )
 }
 
 /// Probes the class and the DTZ of a position, as `szg_tablebase_wdl`. `counter` is the number of plies since the last
@@ -311,12 +306,8 @@ pub extern "C" fn szg_tablebase_dtz(
         Ok(position) => position,
         Err(status) => return status,
     };
-    let Some(mut held) = take(tablebase, alloc) else {
-        return distance_in_none(alloc, &position, counter, distance, lack);
-    };
-    let status = distance_in(&mut held, &position, counter, distance, lack);
-    put(tablebase, held);
-    status
+    let mut look = |set: &mut MappedSet| distance_in(set, &position, counter, distance, lack);
+    with_tables(alloc, tablebase, &mut look)
 }
 
 /// Returns a move as numbers.
@@ -350,7 +341,7 @@ fn write_moves(ranked: &[RankedMove], moves: &mut [RawMove])
 
 /// Writes the moves of a position to the beginning of a list, the best first, by a set of tables; returns the status.
 fn moves_in(
-    set: &mut MappedSet<'static>,
+    set: &mut MappedSet<'_>,
     position: &Position,
     counter: u32,
     moves: &mut [RawMove],
@@ -372,30 +363,6 @@ fn moves_in(
     write_moves(ranked.as_slice(), moves);
     *count = ranked.len();
     DONE
-}
-
-/// The same by no tables.
-#[cold]
-#[inline(never)]
-fn moves_in_none(
-    alloc: Global,
-    position: &Position,
-    counter: u32,
-    moves: &mut [RawMove],
-    count: &mut usize,
-    lack: &mut RawMissing,
-) -> u32
-    ensures reported { IsRankedWritten [] counter position.now result moves.old moves.new count.new lack.old lack.new }
-    ensures stays { (result ≡ 0 → ⊥) → (moves.new ≡ moves.old) × (count.new ≡ count.old) }
-{
-    moves_in(
-        &mut MappedSet::of(Vec::new(alloc)),
-        position,
-        counter,
-        moves,
-        count,
-        lack,
-    )
 }
 
 /// Writes the legal moves of a position to the beginning of a list, and their number: the best first, by class, then a win by
@@ -423,10 +390,6 @@ pub extern "C" fn szg_tablebase_moves(
         Ok(position) => position,
         Err(status) => return status,
     };
-    let Some(mut held) = take(tablebase, alloc) else {
-        return moves_in_none(alloc, &position, counter, moves, count, lack);
-    };
-    let status = moves_in(&mut held, &position, counter, moves, count, lack);
-    put(tablebase, held);
-    status
+    let mut look = |set: &mut MappedSet| moves_in(set, &position, counter, moves, count, lack);
+    with_tables(alloc, tablebase, &mut look)
 }
