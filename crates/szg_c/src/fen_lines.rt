@@ -4,9 +4,8 @@ ghost use Rattle.std.specs.List.{after_first, before_first};
 ghost use Rattle.szg_c.specs.FenLines.{AreProbed, IsProbed, is_line_feed};
 ghost use Rattle.szg_c.specs.Tablebases.{files_of};
 
-use crate::handle::{put, take};
 use crate::held_tablebase::HeldTablebase;
-use crate::tablebase_calls::{RawMissing, class_in};
+use crate::tablebase_calls::{RawMissing, class_in, with_tables};
 use std::alloc::Global;
 use szg_c_positions::said_by;
 use szg_c_positions::status::{DONE, NO_RESULT};
@@ -26,17 +25,13 @@ pub extern "C" fn szg_tablebase_wdl_of_fens(
     ensures kept { tablebase.new.value ≡ tablebase.old.value }
     ensures probed { AreProbed (files_of tablebase.old.value) fens.now classes.new (length classes.old) result }
 {
-    let Some(mut held) = take(tablebase, alloc) else {
-        return classes_in(&mut MappedSet::of(Vec::new(alloc)), fens, classes);
-    };
-    let status = classes_in(&mut held, fens, classes);
-    put(tablebase, held);
-    status
+    let mut look = |set: &mut MappedSet| classes_in(set, fens, classes);
+    with_tables(alloc, tablebase, &mut look)
 }
 
 /// Writes the classes of the first lines' positions by a set of tables, or `NO_RESULT`; returns the first status other than
 /// `DONE`.
-fn classes_in(set: &mut MappedSet<'static>, fens: &[u8], classes: &mut [i8]) -> u32
+fn classes_in(set: &mut MappedSet<'_>, fens: &[u8], classes: &mut [i8]) -> u32
     ensures kept { set.new ≡ set.old }
     ensures probed { AreProbed set.old fens.now classes.new (length classes.old) result }
 {
@@ -54,7 +49,7 @@ fn classes_in(set: &mut MappedSet<'static>, fens: &[u8], classes: &mut [i8]) -> 
 }
 
 /// Writes the class of the position that a line names by a set of tables, or `NO_RESULT`; returns the status.
-fn class_of_line(set: &mut MappedSet<'static>, line: &[u8], class: &mut i8) -> u32
+fn class_of_line(set: &mut MappedSet<'_>, line: &[u8], class: &mut i8) -> u32
     ensures kept { set.new ≡ set.old }
     ensures probed { IsProbed set.old line.now result class.new }
 {

@@ -1,10 +1,12 @@
 //! Calls on a tablebase: tables are added by their bytes, and positions are probed with their captures, the right to
 //! capture en passant and the fifty-move counter.
-ghost use Rattle.std.specs.Prelude.{◌≡◌, ◌≤◌, ◌⊎◌, ◌++◌, [], Err, IfErr, IfNone, IfOk, IfSome, MatchResult, Ok, drop, length, map};
+ghost use Rattle.std.specs.Prelude.{◌≡◌, ◌≤◌, ◌⊎◌, ◌++◌, [], Err, IfErr, IfOk, IfSome, List, MatchResult, Ok, drop, length, map};
+ghost use Rattle.std.specs.Fn.{CalledAtMut};
 ghost use Rattle.std.specs.declared.option.Option.TheVariants.{None, Some};
 ghost use Rattle.szg_file.specs.Unread.{unread_file};
+ghost use Rattle.szg_mapped.specs.InPlace.{InPlace};
 ghost use Rattle.szg_c.specs.Reported.{Stops};
-ghost use Rattle.szg_c.specs.Tablebases.{IsAdded, IsClassProbed, IsDistanceProbed, IsMissingReported, IsRankedWritten, IsTableOf, files_of, promotion_code, raw_move};
+ghost use Rattle.szg_c.specs.Tablebases.{IsAdded, IsClassProbed, IsDistanceProbed, IsMissingReported, IsRankedWritten, IsTableOf, files_of, raw_move};
 ghost use Rattle.szg_c_positions.specs.Positions.{position_of};
 
 use crate::handle::{put, share, shut, take};
@@ -21,7 +23,7 @@ use szg_c_positions::{RawMan, position_of};
 use szg_chess::Position;
 use szg_probe::{DistanceFault, RankedMove, probe_dtz, probe_wdl, rank_moves};
 use szg_tables::{MappedSet, MappedTable, Missing, MissingReason, number_of_class};
-use szg_values::{Kind, Man};
+use szg_values::Kind;
 
 /// What a tablebase does not have for a position.
 #[repr(C)]
@@ -91,18 +93,33 @@ fn opened(
     }
 }
 
-/// Takes the tables of a tablebase; a set of no table, if it has none. None if memory is refused.
-fn take_tables(alloc: Global, tablebase: &mut HeldTablebase) -> Option<Box<MappedSet<'static>>>
-    ensures tables { IfSome result (λ tables. tables.value ≡ files_of tablebase.old.value) }
-    ensures kept { IfNone result (tablebase.new.value ≡ tablebase.old.value) }
+/// Calls a function with the tables of a tablebase, or with no tables if it has none; returns the function's status.
+#[inline(always)]
+pub(crate) fn with_tables<F: FnMut(&mut MappedSet) -> u32>(
+    alloc: Global,
+    tablebase: &mut HeldTablebase,
+    function: &mut F,
+) -> u32
+    requires { F.IsAlwaysCallable function.old }
+    ensures { (left : List InPlace) × CalledAtMut F.FnMut function.old (files_of tablebase.old.value) result function.new left
+        × (left ≡ files_of tablebase.old.value → tablebase.new.value ≡ tablebase.old.value) }
 {
-    match take(tablebase, alloc) {
-        Some(tables) => Some(tables),
-        None => match Box::new(alloc, MappedSet::of(Vec::new(alloc))) {
-            Ok(tables) => Some(tables),
-            Err(_) => None,
-        },
-    }
+    let Some(mut held) = take(tablebase, alloc) else {
+        return with_no_tables(alloc, function);
+    };
+    let status = function(&mut held);
+    put(tablebase, held);
+    status
+}
+
+/// Calls a function with no tables. It is a function of its own, so that only it has room for a set.
+#[cold]
+#[inline(never)]
+fn with_no_tables<F: FnMut(&mut MappedSet) -> u32>(alloc: Global, function: &mut F) -> u32
+    requires { F.IsAlwaysCallable function.old }
+    ensures { (left : List InPlace) × CalledAtMut F.FnMut function.old [] result function.new left }
+{
+    function(&mut MappedSet::of(Vec::new(alloc)))
 }
 
 /// Adds a table to a tablebase, behind the others: that of this name and kind whose file the bytes are. It reads and checks
@@ -128,8 +145,12 @@ pub extern "C" fn szg_tablebase_add(
         Ok(table) => table,
         Err(status) => return status,
     };
-    let Some(mut tables) = take_tables(alloc, tablebase) else {
-        return MEMORY;
+    let mut tables = match take(tablebase, alloc) {
+        Some(tables) => tables,
+        None => match Box::new(alloc, MappedSet::of(Vec::new(alloc))) {
+            Ok(tables) => tables,
+            Err(_) => return MEMORY,
+        },
     };
     let added = tables.push(table);
     put(tablebase, tables);
@@ -188,7 +209,7 @@ fn report_missing(missing: Missing, lack: &mut RawMissing) -> u32
 
 /// Writes the class of a position by a set of tables; returns the status.
 pub(crate) fn class_in(
-    set: &mut MappedSet<'static>,
+    set: &mut MappedSet<'_>,
     position: &Position,
     class: &mut i8,
     lack: &mut RawMissing,
@@ -204,16 +225,6 @@ pub(crate) fn class_in(
         }
         Err(missing) => report_missing(missing, lack),
     }
-}
-
-/// The same by no tables. It is a function of its own, so that only it has room for a set.
-#[cold]
-#[inline(never)]
-fn class_in_none(alloc: Global, position: &Position, class: &mut i8, lack: &mut RawMissing) -> u32
-    ensures reported { IsClassProbed [] position.now result class.new lack.old lack.new }
-    ensures class_stays { (result ≡ 0 → ⊥) → class.new ≡ class.old }
-{
-    class_in(&mut MappedSet::of(Vec::new(alloc)), position, class, lack)
 }
 
 /// Probes the class of a position for the side to move (2 win, 1 cursed win, 0 draw, -1 blessed loss, -2 loss), from the
@@ -242,17 +253,13 @@ pub extern "C" fn szg_tablebase_wdl(
         Ok(position) => position,
         Err(status) => return status,
     };
-    let Some(mut held) = take(tablebase, alloc) else {
-        return class_in_none(alloc, &position, class, lack);
-    };
-    let status = class_in(&mut held, &position, class, lack);
-    put(tablebase, held);
-    status
+    let mut look = |set: &mut MappedSet| class_in(set, &position, class, lack);
+    with_tables(alloc, tablebase, &mut look)
 }
 
 /// Writes the class and the DTZ of a position by a set of tables; returns the status.
 fn distance_in(
-    set: &mut MappedSet<'static>,
+    set: &mut MappedSet<'_>,
     position: &Position,
     counter: u32,
     distance: &mut RawDistance,
@@ -271,28 +278,6 @@ fn distance_in(
         Err(DistanceFault::Tables(missing)) => report_missing(missing, lack),
         Err(DistanceFault::Contradiction) => CONTRADICTION,
     }
-}
-
-/// The same by no tables.
-#[cold]
-#[inline(never)]
-fn distance_in_none(
-    alloc: Global,
-    position: &Position,
-    counter: u32,
-    distance: &mut RawDistance,
-    lack: &mut RawMissing,
-) -> u32
-    ensures reported { IsDistanceProbed [] counter position.now result distance.new lack.old lack.new }
-    ensures distance_stays { (result ≡ 0 → ⊥) → distance.new ≡ distance.old }
-{
-    distance_in(
-        &mut MappedSet::of(Vec::new(alloc)),
-        position,
-        counter,
-        distance,
-        lack,
-    )
 }
 
 /// Probes the class and the DTZ of a position, as `szg_tablebase_wdl`. `counter` is the number of plies since the last
@@ -321,12 +306,8 @@ pub extern "C" fn szg_tablebase_dtz(
         Ok(position) => position,
         Err(status) => return status,
     };
-    let Some(mut held) = take(tablebase, alloc) else {
-        return distance_in_none(alloc, &position, counter, distance, lack);
-    };
-    let status = distance_in(&mut held, &position, counter, distance, lack);
-    put(tablebase, held);
-    status
+    let mut look = |set: &mut MappedSet| distance_in(set, &position, counter, distance, lack);
+    with_tables(alloc, tablebase, &mut look)
 }
 
 /// Returns a move as numbers.
@@ -336,21 +317,15 @@ fn raw_move(ranked: &RankedMove) -> RawMove
     RawMove {
         from: ranked.m.from.number(),
         to: ranked.m.to.number(),
-        promotion: promotion_code(ranked.m.promotion),
+        promotion: match ranked.m.promotion {
+            Some(man) => man.code(),
+            None => 0,
+        },
         class: number_of_class(ranked.distance.class),
         dtz: ranked.distance.signed(),
         zeroing: ranked.zeroing,
         mate: ranked.mate,
         stalemate: ranked.stalemate,
-    }
-}
-
-fn promotion_code(promotion: Option<Man>) -> u8
-    ensures { result ≡ promotion_code promotion }
-{
-    match promotion {
-        Some(man) => man.code(),
-        None => 0,
     }
 }
 
@@ -366,7 +341,7 @@ fn write_moves(ranked: &[RankedMove], moves: &mut [RawMove])
 
 /// Writes the moves of a position to the beginning of a list, the best first, by a set of tables; returns the status.
 fn moves_in(
-    set: &mut MappedSet<'static>,
+    set: &mut MappedSet<'_>,
     position: &Position,
     counter: u32,
     moves: &mut [RawMove],
@@ -388,30 +363,6 @@ fn moves_in(
     write_moves(ranked.as_slice(), moves);
     *count = ranked.len();
     DONE
-}
-
-/// The same by no tables.
-#[cold]
-#[inline(never)]
-fn moves_in_none(
-    alloc: Global,
-    position: &Position,
-    counter: u32,
-    moves: &mut [RawMove],
-    count: &mut usize,
-    lack: &mut RawMissing,
-) -> u32
-    ensures reported { IsRankedWritten [] counter position.now result moves.old moves.new count.new lack.old lack.new }
-    ensures stays { (result ≡ 0 → ⊥) → (moves.new ≡ moves.old) × (count.new ≡ count.old) }
-{
-    moves_in(
-        &mut MappedSet::of(Vec::new(alloc)),
-        position,
-        counter,
-        moves,
-        count,
-        lack,
-    )
 }
 
 /// Writes the legal moves of a position to the beginning of a list, and their number: the best first, by class, then a win by
@@ -439,10 +390,6 @@ pub extern "C" fn szg_tablebase_moves(
         Ok(position) => position,
         Err(status) => return status,
     };
-    let Some(mut held) = take(tablebase, alloc) else {
-        return moves_in_none(alloc, &position, counter, moves, count, lack);
-    };
-    let status = moves_in(&mut held, &position, counter, moves, count, lack);
-    put(tablebase, held);
-    status
+    let mut look = |set: &mut MappedSet| moves_in(set, &position, counter, moves, count, lack);
+    with_tables(alloc, tablebase, &mut look)
 }
