@@ -23,7 +23,7 @@ use crate::saying::{say, say_line};
 use clap::Error;
 use clap::error::ErrorKind;
 use std::alloc::Global;
-use szg_build::{DumpWriteFault, Unwatched, Watcher, dump_table};
+use szg_build::{StreamFault, Unwatched, Watcher, dump_table};
 use szg_file::{ReadFault, Table, file_len, read, write};
 use szg_io::{Input, Output};
 use szg_values::Material;
@@ -247,7 +247,9 @@ fn write_dump_text<W: Output>(
 {
     match dump_table(alloc, table, form.number(), writer) {
         Ok(()) => Ok(()),
-        Err(DumpWriteFault::Output) => Err(Stop::Device),
-        Err(DumpWriteFault::Memory) => Err(Stop::Memory),
+        Err(StreamFault::Output) => Err(Stop::Device),
+        Err(StreamFault::Memory) => Err(Stop::Memory),
+        Err(StreamFault::Changed) => unreachable!(),
+        Err(StreamFault::Input) => unreachable!(),
     }
 }

@@ -30,7 +30,7 @@ use thiserror::Error;
 pub use writing::block_values::BlockValues;
 pub use writing::dumping::{StreamFault, stream_dump};
 pub use writing::stored::{StoredValues, stored_values};
-pub use writing::table_dump::{DumpWriteFault, dump_table};
+pub use writing::table_dump::dump_table;
 pub use writing::write_dump;
 
 /// What a table is built from, besides its values.
