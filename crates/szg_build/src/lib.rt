@@ -12,7 +12,6 @@ mod reading;
 mod refusing;
 mod subtables;
 mod table;
-mod typed;
 mod writing;
 
 ghost use Rattle.std.specs.Prelude.{◌≡◌};
