@@ -14,6 +14,7 @@ pub mod Reach
 pub mod Enemies
 pub mod Rows
 pub mod SafeMove
+pub mod Reached
 pub mod Cells
 pub mod Writing
 pub mod Relation

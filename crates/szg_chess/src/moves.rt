@@ -12,7 +12,7 @@ ghost use Rattle.szg_chess.specs.Squares.{is_in, is_in_moved, squares_of, attack
 ghost use Rattle.szg_chess.specs.Moves.{men_of, promotes, moves_to, moves_if, may_pass, en_passant_moves, captures_by, captures_of, home_rank, double_rank, is_push, may_enter, quiet_moves_by, quiet_moves_of, moves_of, is_pawn_on, is_square, is_en_passant, captured_square, man_after, men_after, is_double_step, middle, after, is_legal, legal_moves, legal_captures, is_capture, is_zeroing, is_mate, is_stalemate, has_no_move, has_quiet_move, has_move_beside_en_passant, may_capture};
 
 use crate::attacks::{
-    attacks_past, files_apart, is_ahead, is_in, other_color, ranks_apart, reaches_other,
+    attacks_past, files_apart, is_ahead, is_in, other_color, ranks_apart, reached_by,
 };
 use crate::men::{Few, moved};
 use crate::positions::is_on;
@@ -78,12 +78,12 @@ impl Position {
         let men = self.men_after(&m, captured);
         let key = self.key_after(&m, captured, &men);
         let mover = other_color(self.mover());
-        let reaches = reaches_other(men.as_slice(), mover);
+        let reached = reached_by(men.as_slice(), mover);
         Position {
             men,
             occupied,
             key,
-            reaches,
+            reached,
             mover,
             en_passant,
         }
@@ -180,53 +180,36 @@ impl Position {
         requires { array_vec_len moves.old + length (captures_of self.now) ≤ CAP }
         ensures { moves.new.items ≡ moves.old.items ++ filter (is_legal self.now) (captures_of self.now) }
     {
-        let enemies = self.enemies();
         for man in self.men() {
             if self.is_own(man) {
-                self.push_captures_by(moves, man, enemies);
+                self.push_captures_by(moves, man);
             }
         }
     }
 
-    /// Appends the legal captures of a man. `enemies` has the squares of the other side's men.
+    /// Appends the legal captures of a man.
     fn push_captures_by<const CAP: usize>(
         &self,
         moves: &mut ArrayVec<Move, CAP>,
         man: &(Man, Color, Square),
-        enemies: u64,
     )
         requires standing { Contains self.now.placed_men man.now }
         requires own { is_color self.now.mover man.now.1 ≡ true }
-        requires enemies { (square : ℕ) → square < 64 → is_in enemies square ≡ list_any (λ s. is_color (other_color self.now.mover) s.1 && s.2 == square) self.now.placed_men }
         requires room { array_vec_len moves.old + length (captures_by self.now man.now) ≤ CAP }
         ensures { moves.new.items ≡ moves.old.items ++ filter (is_legal self.now) (captures_by self.now man.now) }
     {
-        self.push_captures_of_men(moves, man, enemies);
+        self.push_captures_of_men(moves, man);
         self.push_en_passant(moves, man);
     }
 
-    /// Returns the squares of the other side's men.
-    fn enemies(&self) -> u64
-        ensures { (square : ℕ) → square < 64 → is_in result square ≡ list_any (λ s. is_color (other_color self.now.mover) s.1 && s.2 == square) self.now.placed_men }
-    {
-        let mut squares = 0u64;
-        for man in self.men() {
-            if self.is_enemy(man) {
-                squares |= 1 << man.2.number();
-            }
-        }
-        squares
-    }
-
-    /// Returns whether a man would attack an enemy man on an empty board. If not, it attacks none.
-    fn reaches_enemy(&self, man: &(Man, Color, Square), enemies: u64) -> bool
-        requires { (square : ℕ) → square < 64 → is_in enemies square ≡ list_any (λ s. is_color (other_color self.now.mover) s.1 && s.2 == square) self.now.placed_men }
+    /// Returns whether a man of the mover's would attack an enemy man on an empty board. If not, it attacks none.
+    fn reaches_enemy(&self, man: &(Man, Color, Square)) -> bool
+        requires standing { Contains self.now.placed_men man.now }
+        requires own { is_color self.now.mover man.now.1 ≡ true }
         ensures reached { result ≡ list_any (λ t. is_color (other_color self.now.mover) t.1 && attacks [] man.now t.2) self.now.placed_men }
         ensures none { IsFalse result → flat_map (λ t. moves_if (attacks self.now.placed_men man.now t.2) man.now t.2) (men_of (other_color self.now.mover) self.now.placed_men) ≡ [] }
     {
-        // A fact that the proof uses: the men are those of a position.
-        let _ = self.men();
-        next_in(reach_of(man) & enemies, 0) < 64
+        next_in(reach_of(man) & self.reached(), 0) < 64
     }
 
     /// Appends the legal captures of enemy men on squares that a man attacks. Few men reach one, so that is asked first.
@@ -234,15 +217,13 @@ impl Position {
         &self,
         moves: &mut ArrayVec<Move, CAP>,
         man: &(Man, Color, Square),
-        enemies: u64,
     )
         requires standing { Contains self.now.placed_men man.now }
         requires own { is_color self.now.mover man.now.1 ≡ true }
-        requires enemies { (square : ℕ) → square < 64 → is_in enemies square ≡ list_any (λ s. is_color (other_color self.now.mover) s.1 && s.2 == square) self.now.placed_men }
         requires room { array_vec_len moves.old + length (flat_map (λ t. moves_if (attacks self.now.placed_men man.now t.2) man.now t.2) (men_of (other_color self.now.mover) self.now.placed_men)) ≤ CAP }
         ensures { moves.new.items ≡ moves.old.items ++ filter (is_legal self.now) (flat_map (λ t. moves_if (attacks self.now.placed_men man.now t.2) man.now t.2) (men_of (other_color self.now.mover) self.now.placed_men)) }
     {
-        if !self.reaches_enemy(man, enemies) {
+        if !self.reaches_enemy(man) {
             return;
         }
         let men = self.men();
