@@ -9,6 +9,7 @@ pub mod AfterMove
 pub mod Captured
 pub mod Found
 pub mod Zeroing
+pub mod ZeroingMoves
 pub mod Sets
 pub mod Reach
 pub mod Enemies

@@ -5,11 +5,11 @@ ghost use Rattle.std.specs.List.{All, find, list_any};
 ghost use Rattle.arrayvec.specs.ArrayVec.{array_vec_len};
 ghost use Rattle.szg_values.specs.Men.{is_man, is_color, other_color, file_of, rank_of, square_at};
 ghost use Rattle.szg_values.specs.Placement.{AreOnBoard, PlacedMan, men_key};
-ghost use Rattle.szg_values.specs.declared.Man.TheVariants.{King};
+ghost use Rattle.szg_values.specs.declared.Man.TheVariants.{King, Pawn};
 ghost use Rattle.szg_chess.specs.Attacks.{attacks, is_occupied, is_in_check};
 ghost use Rattle.szg_chess.specs.Position.{IsPosition};
 ghost use Rattle.szg_chess.specs.Squares.{is_in, is_in_moved, squares_of, attacks_past};
-ghost use Rattle.szg_chess.specs.Moves.{men_of, promotes, moves_to, moves_if, may_pass, en_passant_moves, captures_by, captures_of, home_rank, double_rank, is_push, may_enter, quiet_moves_by, quiet_moves_of, moves_of, is_pawn_on, is_square, is_en_passant, captured_square, man_after, men_after, is_double_step, middle, after, is_legal, legal_moves, legal_captures, is_capture, is_zeroing, is_mate, is_stalemate, has_no_move, has_quiet_move, has_move_beside_en_passant, may_capture};
+ghost use Rattle.szg_chess.specs.Moves.{men_of, promotes, moves_to, moves_if, may_pass, en_passant_moves, captures_by, captures_of, home_rank, double_rank, is_push, may_enter, quiet_moves_by, quiet_moves_of, pawn_moves_of, moves_of, is_pawn_on, is_square, is_en_passant, captured_square, man_after, men_after, is_double_step, middle, after, is_legal, legal_moves, legal_captures, is_capture, is_zeroing, is_mate, is_stalemate, has_no_move, has_quiet_move, has_move_beside_en_passant, may_capture};
 
 use crate::attacks::{
     attacks_past, files_apart, is_ahead, is_in, other_color, ranks_apart, reached_by,
@@ -62,6 +62,17 @@ impl Position {
         let mut moves = ArrayVec::new();
         self.push_captures(&mut moves);
         self.push_quiet_moves(&mut moves);
+        moves
+    }
+
+    /// Returns the legal moves that are captures or pawns' moves, in the order of `legal_moves`.
+    pub fn zeroing_moves(&self) -> ArrayVec<Move, MAX_MOVES>
+        ensures { result.items ≡ filter (is_zeroing self.now) (legal_moves self.now) }
+    {
+        self.zeroing_moves_fit();
+        let mut moves = ArrayVec::new();
+        self.push_captures(&mut moves);
+        self.push_pawn_moves(&mut moves);
         moves
     }
 
@@ -174,6 +185,14 @@ impl Position {
         let _ = self.men();
     }
 
+    // A fact that callers may use: which moves are zeroing, and that there are few.
+    fn zeroing_moves_fit(&self)
+        ensures few { length (captures_of self.now) + length (pawn_moves_of self.now) ≤ 116 }
+        ensures all { filter (is_zeroing self.now) (legal_moves self.now) ≡ legal_captures self.now ++ filter (is_legal self.now) (pawn_moves_of self.now) }
+    {
+        let _ = self.men();
+    }
+
     /// Appends the legal captures.
     #[tactic(auto, unfolding(crate::specs::Moves::captures_of))]
     fn push_captures<const CAP: usize>(&self, moves: &mut ArrayVec<Move, CAP>)
@@ -260,6 +279,19 @@ impl Position {
     {
         for man in self.men() {
             if self.is_own(man) {
+                self.push_quiet_moves_by(moves, man);
+            }
+        }
+    }
+
+    /// Appends the legal moves of pawns to empty squares.
+    #[tactic(auto, unfolding(crate::specs::Moves::pawn_moves_of))]
+    fn push_pawn_moves<const CAP: usize>(&self, moves: &mut ArrayVec<Move, CAP>)
+        requires { array_vec_len moves.old + length (pawn_moves_of self.now) ≤ CAP }
+        ensures { moves.new.items ≡ moves.old.items ++ filter (is_legal self.now) (pawn_moves_of self.now) }
+    {
+        for man in self.men() {
+            if self.is_own_pawn(man) {
                 self.push_quiet_moves_by(moves, man);
             }
         }
@@ -557,6 +589,13 @@ impl Position {
         ensures { result ≡ is_color self.now.mover man.now.1 }
     {
         self.mover == man.1
+    }
+
+    /// Returns whether a man is a pawn of the mover's.
+    fn is_own_pawn(&self, man: &(Man, Color, Square)) -> bool
+        ensures { result ≡ (is_color self.now.mover man.now.1 && is_man Pawn man.now.0) }
+    {
+        self.is_own(man) && is_man(Man::Pawn, man)
     }
 
     /// Returns whether a man is the other side's.
