@@ -12,6 +12,7 @@ use crate::held_tablebase::HeldTablebase;
 use crate::opening::{RawAnswer, fault_status, kind_of, material_of};
 use crate::places::place_status;
 use crate::texts::print;
+use arrayvec::ArrayVec;
 use std::alloc::Global;
 use szg_c_positions::status::{
     BAD_BLOCK, CHANGED, CONTRADICTION, DONE, EN_PASSANT, IN_CHECK, MAN, MEMORY, MEN, MISSING, NAME,
@@ -377,11 +378,12 @@ fn moves_in(
     ensures reported { IsRankedWritten set.old counter position.now result moves.old moves.new count.new lack.old lack.new }
     ensures stays { (result ≡ 0 → ⊥) → (moves.new ≡ moves.old) × (count.new ≡ count.old) }
 {
-    let ranked = match rank_moves(set, position, counter) {
-        Ok(ranked) => ranked,
+    let mut ranked = ArrayVec::new();
+    match rank_moves(set, position, counter, &mut ranked) {
+        Ok(()) => {}
         Err(DistanceFault::Tables(missing)) => return report_missing(missing, lack),
         Err(DistanceFault::Contradiction) => return CONTRADICTION,
-    };
+    }
     if moves.len() < ranked.len() {
         return RANGE;
     }

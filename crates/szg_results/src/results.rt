@@ -39,8 +39,9 @@ pub fn probe_position<T: DistanceTables>(
         Ok(distance) => distance,
         Err(fault) => return Err(fault),
     };
-    match rank_moves(tables, position, counter) {
-        Ok(moves) => Ok(Answer {
+    let mut moves = ArrayVec::new();
+    match rank_moves(tables, position, counter, &mut moves) {
+        Ok(()) => Ok(Answer {
             distance: counted(position, counter, distance),
             moves,
             has_distances,

@@ -8,7 +8,7 @@ use Rattle.szg_c.proofs.tablebase_calls.moves_in.Goals as goal
 
 pub returns-then-moves-len-clause-reported : goal.returns-then-moves-len-clause-reported
 returns-then-moves-len-clause-reported c =
-    let ranked = c.in-Ok.ranked.items in
+    let ranked = c.rank_moves.new.moves.items in
     let move_of : RankedMove → Move = λ r. r.m in
     let each : length (map move_of ranked) ≡ length (legal_moves c.args.position.now) = length_permutation _ _ c.in-Ok.ensures.each in
     let many : length (map move_of ranked) ≡ length ranked = length-map ranked move_of in
