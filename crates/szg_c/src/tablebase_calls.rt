@@ -167,8 +167,10 @@ pub extern "C" fn szg_close_tablebase(alloc: Global, tablebase: &mut HeldTableba
 }
 
 /// Writes what is missing; returns the status.
-fn report_missing(missing: Missing, lack: &mut RawMissing) -> u32
-    ensures reported { IsMissingReported missing result lack.old lack.new }
+#[cold]
+#[inline(never)]
+fn report_missing(missing: &Missing, lack: &mut RawMissing) -> u32
+    ensures reported { IsMissingReported missing.now result lack.old lack.new }
     ensures not_done { result ≡ 0 → ⊥ }
 {
     let name = missing.material.name();
@@ -198,9 +200,9 @@ pub(crate) fn class_in(
     ensures reported { IsClassProbed set.old position.now result class.new lack.old lack.new }
     ensures class_stays { (result ≡ 0 → ⊥) → class.new ≡ class.old }
 {
-    match probe_wdl(set, position) {
+    match &probe_wdl(set, position) {
         Ok(found) => {
-            *class = number_of_class(found);
+            *class = number_of_class(*found);
             DONE
         }
         Err(missing) => report_missing(missing, lack),
@@ -239,14 +241,15 @@ pub extern "C" fn szg_tablebase_wdl(
     ensures reported { MatchResult (position_of men.now mover en_passant) (λ p. IsClassProbed (files_of tablebase.old.value) p result class.new lack.old lack.new) (λ status. (result ≡ status) × (lack.new ≡ lack.old)) }
     ensures class_stays { (result ≡ 0 → ⊥) → class.new ≡ class.old }
 {
-    let position = match position_of(men, mover, en_passant) {
+    let found = position_of(men, mover, en_passant);
+    let position = match &found {
         Ok(position) => position,
-        Err(status) => return status,
+        Err(status) => return *status,
     };
     let Some(mut held) = take(tablebase, alloc) else {
-        return class_in_none(alloc, &position, class, lack);
+        return class_in_none(alloc, position, class, lack);
     };
-    let status = class_in(&mut held, &position, class, lack);
+    let status = class_in(&mut held, position, class, lack);
     put(tablebase, held);
     status
 }
@@ -263,7 +266,7 @@ fn distance_in(
     ensures reported { IsDistanceProbed set.old counter position.now result distance.new lack.old lack.new }
     ensures distance_stays { (result ≡ 0 → ⊥) → distance.new ≡ distance.old }
 {
-    match probe_dtz(set, position) {
+    match &probe_dtz(set, position) {
         Ok(found) => {
             distance.class = number_of_class(found.at_counter(counter).class);
             distance.dtz = found.signed();
@@ -318,14 +321,15 @@ pub extern "C" fn szg_tablebase_dtz(
     ensures reported { MatchResult (position_of men.now mover en_passant) (λ p. IsDistanceProbed (files_of tablebase.old.value) counter p result distance.new lack.old lack.new) (λ status. (result ≡ status) × (lack.new ≡ lack.old)) }
     ensures distance_stays { (result ≡ 0 → ⊥) → distance.new ≡ distance.old }
 {
-    let position = match position_of(men, mover, en_passant) {
+    let found = position_of(men, mover, en_passant);
+    let position = match &found {
         Ok(position) => position,
-        Err(status) => return status,
+        Err(status) => return *status,
     };
     let Some(mut held) = take(tablebase, alloc) else {
-        return distance_in_none(alloc, &position, counter, distance, lack);
+        return distance_in_none(alloc, position, counter, distance, lack);
     };
-    let status = distance_in(&mut held, &position, counter, distance, lack);
+    let status = distance_in(&mut held, position, counter, distance, lack);
     put(tablebase, held);
     status
 }
@@ -379,7 +383,7 @@ fn moves_in(
     ensures stays { (result ≡ 0 → ⊥) → (moves.new ≡ moves.old) × (count.new ≡ count.old) }
 {
     let mut ranked = ArrayVec::new();
-    match rank_moves(set, position, counter, &mut ranked) {
+    match &rank_moves(set, position, counter, &mut ranked) {
         Ok(()) => {}
         Err(DistanceFault::Tables(missing)) => return report_missing(missing, lack),
         Err(DistanceFault::Contradiction) => return CONTRADICTION,
@@ -437,14 +441,15 @@ pub extern "C" fn szg_tablebase_moves(
     ensures reported { MatchResult (position_of men.now mover en_passant) (λ p. IsRankedWritten (files_of tablebase.old.value) counter p result moves.old moves.new count.new lack.old lack.new) (λ status. (result ≡ status) × (lack.new ≡ lack.old)) }
     ensures stays { (result ≡ 0 → ⊥) → (moves.new ≡ moves.old) × (count.new ≡ count.old) }
 {
-    let position = match position_of(men, mover, en_passant) {
+    let found = position_of(men, mover, en_passant);
+    let position = match &found {
         Ok(position) => position,
-        Err(status) => return status,
+        Err(status) => return *status,
     };
     let Some(mut held) = take(tablebase, alloc) else {
-        return moves_in_none(alloc, &position, counter, moves, count, lack);
+        return moves_in_none(alloc, position, counter, moves, count, lack);
     };
-    let status = moves_in(&mut held, &position, counter, moves, count, lack);
+    let status = moves_in(&mut held, position, counter, moves, count, lack);
     put(tablebase, held);
     status
 }
