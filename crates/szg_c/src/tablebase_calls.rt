@@ -14,6 +14,7 @@ use crate::held_tablebase::HeldTablebase;
 use crate::opening::{RawAnswer, fault_status, kind_of, material_of};
 use crate::places::place_status;
 use crate::texts::print;
+use arrayvec::ArrayVec;
 use std::alloc::Global;
 use szg_c_positions::status::{
     BAD_BLOCK, CHANGED, CONTRADICTION, DONE, EN_PASSANT, IN_CHECK, MAN, MEMORY, MEN, MISSING, NAME,
@@ -187,8 +188,10 @@ pub extern "C" fn szg_close_tablebase(alloc: Global, tablebase: &mut HeldTableba
 }
 
 /// Writes what is missing; returns the status.
-fn report_missing(missing: Missing, lack: &mut RawMissing) -> u32
-    ensures reported { IsMissingReported missing result lack.old lack.new }
+#[cold]
+#[inline(never)]
+fn report_missing(missing: &Missing, lack: &mut RawMissing) -> u32
+    ensures reported { IsMissingReported missing.now result lack.old lack.new }
     ensures not_done { result ≡ 0 → ⊥ }
 {
     let name = missing.material.name();
@@ -218,9 +221,9 @@ pub(crate) fn class_in(
     ensures reported { IsClassProbed set.old position.now result class.new lack.old lack.new }
     ensures class_stays { (result ≡ 0 → ⊥) → class.new ≡ class.old }
 {
-    match probe_wdl(set, position) {
+    match &probe_wdl(set, position) {
         Ok(found) => {
-            *class = number_of_class(found);
+            *class = number_of_class(*found);
             DONE
         }
         Err(missing) => report_missing(missing, lack),
@@ -249,11 +252,12 @@ pub extern "C" fn szg_tablebase_wdl(
     ensures reported { MatchResult (position_of men.now mover en_passant) (λ p. IsClassProbed (files_of tablebase.old.value) p result class.new lack.old lack.new) (λ status. (result ≡ status) × (lack.new ≡ lack.old)) }
     ensures class_stays { (result ≡ 0 → ⊥) → class.new ≡ class.old }
 {
-    let position = match position_of(men, mover, en_passant) {
+    let found = position_of(men, mover, en_passant);
+    let position = match &found {
         Ok(position) => position,
-        Err(status) => return status,
+        Err(status) => return *status,
     };
-    let mut look = |set: &mut MappedSet| class_in(set, &position, class, lack);
+    let mut look = |set: &mut MappedSet| class_in(set, position, class, lack);
     with_tables(alloc, tablebase, &mut look)
 }
 
@@ -269,7 +273,7 @@ fn distance_in(
     ensures reported { IsDistanceProbed set.old counter position.now result distance.new lack.old lack.new }
     ensures distance_stays { (result ≡ 0 → ⊥) → distance.new ≡ distance.old }
 {
-    match probe_dtz(set, position) {
+    match &probe_dtz(set, position) {
         Ok(found) => {
             distance.class = number_of_class(found.at_counter(counter).class);
             distance.dtz = found.signed();
@@ -302,11 +306,12 @@ pub extern "C" fn szg_tablebase_dtz(
     ensures reported { MatchResult (position_of men.now mover en_passant) (λ p. IsDistanceProbed (files_of tablebase.old.value) counter p result distance.new lack.old lack.new) (λ status. (result ≡ status) × (lack.new ≡ lack.old)) }
     ensures distance_stays { (result ≡ 0 → ⊥) → distance.new ≡ distance.old }
 {
-    let position = match position_of(men, mover, en_passant) {
+    let found = position_of(men, mover, en_passant);
+    let position = match &found {
         Ok(position) => position,
-        Err(status) => return status,
+        Err(status) => return *status,
     };
-    let mut look = |set: &mut MappedSet| distance_in(set, &position, counter, distance, lack);
+    let mut look = |set: &mut MappedSet| distance_in(set, position, counter, distance, lack);
     with_tables(alloc, tablebase, &mut look)
 }
 
@@ -352,11 +357,12 @@ fn moves_in(
     ensures reported { IsRankedWritten set.old counter position.now result moves.old moves.new count.new lack.old lack.new }
     ensures stays { (result ≡ 0 → ⊥) → (moves.new ≡ moves.old) × (count.new ≡ count.old) }
 {
-    let ranked = match rank_moves(set, position, counter) {
-        Ok(ranked) => ranked,
+    let mut ranked = ArrayVec::new();
+    match &rank_moves(set, position, counter, &mut ranked) {
+        Ok(()) => {}
         Err(DistanceFault::Tables(missing)) => return report_missing(missing, lack),
         Err(DistanceFault::Contradiction) => return CONTRADICTION,
-    };
+    }
     if moves.len() < ranked.len() {
         return RANGE;
     }
@@ -386,10 +392,11 @@ pub extern "C" fn szg_tablebase_moves(
     ensures reported { MatchResult (position_of men.now mover en_passant) (λ p. IsRankedWritten (files_of tablebase.old.value) counter p result moves.old moves.new count.new lack.old lack.new) (λ status. (result ≡ status) × (lack.new ≡ lack.old)) }
     ensures stays { (result ≡ 0 → ⊥) → (moves.new ≡ moves.old) × (count.new ≡ count.old) }
 {
-    let position = match position_of(men, mover, en_passant) {
+    let found = position_of(men, mover, en_passant);
+    let position = match &found {
         Ok(position) => position,
-        Err(status) => return status,
+        Err(status) => return *status,
     };
-    let mut look = |set: &mut MappedSet| moves_in(set, &position, counter, moves, count, lack);
+    let mut look = |set: &mut MappedSet| moves_in(set, position, counter, moves, count, lack);
     with_tables(alloc, tablebase, &mut look)
 }

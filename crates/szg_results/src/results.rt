@@ -36,9 +36,11 @@ pub fn probe_position<T: DistanceTables>(
     ensures has_distances { IfOk result (λ a. a.has_distances ≡ has_distances) }
 {
     let distance = probe_dtz(tables, position)?;
+    let mut moves = ArrayVec::new();
+    rank_moves(tables, position, counter, &mut moves)?;
     Ok(Answer {
         distance: counted(position, counter, distance),
-        moves: rank_moves(tables, position, counter)?,
+        moves,
         has_distances,
     })
 }

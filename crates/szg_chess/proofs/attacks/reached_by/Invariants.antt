@@ -3,7 +3,7 @@ use Rattle.std.specs.List.{list_any}
 use Rattle.szg_values.specs.Men.{other_color}
 use Rattle.szg_chess.specs.Squares.{is_in}
 use Rattle.szg_chess.proofs.Enemies.{reaches, stands}
-use Rattle.szg_chess.proofs.attacks.reaches_other.Given as goal
+use Rattle.szg_chess.proofs.attacks.reached_by.Given as goal
 
 abbrev pub invariant-loop-man : goal.invariant-loop-man
 invariant-loop-man l =
