@@ -1,4 +1,4 @@
-ghost use Rattle.std.specs.Prelude.{◌≡◌, ◌≢◌, ◌+◌, ◌-◌, ◌*◌, ◌≤◌, ◌<◌, ◌^◌, length, map, nat_lt, nat_le, ◌&&◌, false, OnOk, IfOk};
+ghost use Rattle.std.specs.Prelude.{◌≡◌, ◌≢◌, ◌+◌, ◌-◌, ◌*◌, ◌≤◌, ◌<◌, ◌^◌, length, map, nat_le, ◌&&◌, false, OnOk, IfOk};
 ghost use Rattle.szg_code.specs.Acceptance.{IsCode};
 ghost use Rattle.szg_block.specs.Subtable.{IsHeaded};
 ghost use Rattle.szg_file.specs.Contents.{has_bit};
@@ -95,8 +95,9 @@ fn read_packed_head<R: Input>(
     ensures growth { OnOk result (state.new.growth + 2 * state.old.place ≤ state.old.growth + 2 * state.new.place) }
     ensures grown { IfOk result (λ sub. HasCounted state.old state.new 0 (sub_lengths (subtable_of sub))) }
 {
-    let block_bits = read_block_bits(input, state)?;
-    let span_bits = read_span_bits(input, state)?;
+    // a block has at most 2^18 bytes, and a span 2 to 2^31 values
+    let block_bits = read_byte_within(0, 18, Reason::BlockBits, input, state)?;
+    let span_bits = read_byte_within(1, 31, Reason::SpanBits, input, state)?;
     let sizes = read_sizes(input, state)?;
     let lowest = read_lowest(alloc, sizes.min, sizes.max, input, state)?;
     let dict = read_dictionary(alloc, input, state)?;
@@ -115,15 +116,23 @@ fn read_packed_head<R: Input>(
     })
 }
 
-/// Reads the block bits: a block has 2^bits bytes, at most 2^18.
-fn read_block_bits<R: Input>(input: &mut R, state: &mut ReaderState) -> Result<u8, ReadFault>
+/// Reads a byte from `least` to `most`. Errors: `reason` if it is any other.
+fn read_byte_within<R: Input>(
+    least: u8,
+    most: u8,
+    reason: Reason,
+    input: &mut R,
+    state: &mut ReaderState,
+) -> Result<u8, ReadFault>
     requires { state.old.place < 2 ^ 62 }
-    ensures bits { Reading (byte_where (λ bits. nat_le bits 18) Reason.BlockBits) (λ bits. bits) state.old state.new R.Input input.old input.new result }
-    ensures most { IfOk result (λ bits. bits ≤ 18) }
+    ensures byte { Reading (byte_where (λ byte. nat_le least byte && nat_le byte most) reason) (λ byte. byte) state.old state.new R.Input input.old input.new result }
+    ensures least { IfOk result (λ byte. least ≤ byte) }
+    ensures most { IfOk result (λ byte. byte ≤ most) }
     ensures place { OnOk result (state.new.place ≡ state.old.place + 1) }
     ensures growth { OnOk result (state.new.growth ≡ state.old.growth) }
     ensures grown { OnOk result (HasCounted state.old state.new 0 0) }
 {
+<<<<<<< HEAD
     let (place, reason) = (state.place, Reason::BlockBits);
     let bits = read_byte(input, state)?;
     if bits > 18 {
@@ -148,6 +157,14 @@ fn read_span_bits<R: Input>(input: &mut R, state: &mut ReaderState) -> Result<u8
         return Err(ReadFault::Refused { place, reason });
     }
     Ok(bits)
+=======
+    let place = state.place;
+    let byte = read_byte(input, state)?;
+    if byte < least || byte > most {
+        return Err(ReadFault::Refused { place, reason });
+    }
+    Ok(byte)
+>>>>>>> h_Vf
 }
 
 /// The sizes that follow the span bits in a header: the number of extra lengths, the number of blocks, and the
