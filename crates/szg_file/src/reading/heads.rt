@@ -132,39 +132,12 @@ fn read_byte_within<R: Input>(
     ensures growth { OnOk result (state.new.growth ≡ state.old.growth) }
     ensures grown { OnOk result (HasCounted state.old state.new 0 0) }
 {
-<<<<<<< HEAD
-    let (place, reason) = (state.place, Reason::BlockBits);
-    let bits = read_byte(input, state)?;
-    if bits > 18 {
-        return Err(ReadFault::Refused { place, reason });
-    }
-    Ok(bits)
-}
-
-/// Reads the span bits: each entry of the sparse index covers a span of 2^bits positions, 2 to 2^31.
-fn read_span_bits<R: Input>(input: &mut R, state: &mut ReaderState) -> Result<u8, ReadFault>
-    requires { state.old.place < 2 ^ 62 }
-    ensures bits { Reading (byte_where (λ bits. nat_lt 0 bits && nat_le bits 31) Reason.SpanBits) (λ bits. bits) state.old state.new R.Input input.old input.new result }
-    ensures some { IfOk result (λ bits. 1 ≤ bits) }
-    ensures most { IfOk result (λ bits. bits ≤ 31) }
-    ensures place { OnOk result (state.new.place ≡ state.old.place + 1) }
-    ensures growth { OnOk result (state.new.growth ≡ state.old.growth) }
-    ensures grown { OnOk result (HasCounted state.old state.new 0 0) }
-{
-    let (place, reason) = (state.place, Reason::SpanBits);
-    let bits = read_byte(input, state)?;
-    if bits == 0 || bits > 31 {
-        return Err(ReadFault::Refused { place, reason });
-    }
-    Ok(bits)
-=======
     let place = state.place;
     let byte = read_byte(input, state)?;
     if byte < least || byte > most {
         return Err(ReadFault::Refused { place, reason });
     }
     Ok(byte)
->>>>>>> h_Vf
 }
 
 /// The sizes that follow the span bits in a header: the number of extra lengths, the number of blocks, and the
