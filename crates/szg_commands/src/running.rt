@@ -28,7 +28,11 @@ pub fn words_given(rt: &(impl Env + AllocGlobal)) -> io::Result<Vec<String>> {
 fn texts_of<'a>(alloc: Global, words: &'a [String]) -> Result<Vec<&'a str>, AllocError>
     ensures { IfOk result (λ texts. map (λ text. text.now) texts.items ≡ map (λ word. string_bytes word) words.now) }
 {
-    words.iter().map(|word| word.as_str()).collect(alloc)
+    let mut texts = Vec::new(alloc);
+    'words: for word in words {
+        texts.push(word.as_str())?;
+    }
+    Ok(texts)
 }
 
 /// The ending of a run after the last flush of the output: a device's failure if the flush failed.
