@@ -4,8 +4,9 @@ ghost use Rattle.std.specs.List.{after_first, before_first};
 ghost use Rattle.szg_c.specs.FenLines.{AreProbed, IsProbed, is_line_feed};
 ghost use Rattle.szg_c.specs.Tablebases.{files_of};
 
+use crate::handle::{put, take};
 use crate::held_tablebase::HeldTablebase;
-use crate::tablebase_calls::{RawMissing, class_in, with_tables};
+use crate::tablebase_calls::{RawMissing, class_in};
 use std::alloc::Global;
 use szg_c_positions::said_by;
 use szg_c_positions::status::{DONE, NO_RESULT};
@@ -25,8 +26,12 @@ pub extern "C" fn szg_tablebase_wdl_of_fens(
     ensures kept { tablebase.new.value ≡ tablebase.old.value }
     ensures probed { AreProbed (files_of tablebase.old.value) fens.now classes.new (length classes.old) result }
 {
-    let mut look = |set: &mut MappedSet| classes_in(set, fens, classes);
-    with_tables(alloc, tablebase, &mut look)
+    let Some(mut held) = take(tablebase, alloc) else {
+        return classes_in(&mut MappedSet::of(Vec::new(alloc)), fens, classes);
+    };
+    let status = classes_in(&mut held, fens, classes);
+    put(tablebase, held);
+    status
 }
 
 /// Writes the classes of the first lines' positions by a set of tables, or `NO_RESULT`; returns the first status other than

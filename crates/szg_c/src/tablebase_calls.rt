@@ -94,26 +94,7 @@ fn opened(
     }
 }
 
-/// Calls a function with the tables of a tablebase, or with no tables if it has none; returns the function's status.
-#[inline(always)]
-pub(crate) fn with_tables<F: FnMut(&mut MappedSet) -> u32>(
-    alloc: Global,
-    tablebase: &mut HeldTablebase,
-    function: &mut F,
-) -> u32
-    requires { F.IsAlwaysCallable function.old }
-    ensures { (left : List InPlace) × CalledAtMut F.FnMut function.old (files_of tablebase.old.value) result function.new left
-        × (left ≡ files_of tablebase.old.value → tablebase.new.value ≡ tablebase.old.value) }
-{
-    let Some(mut held) = take(tablebase, alloc) else {
-        return with_no_tables(alloc, function);
-    };
-    let status = function(&mut held);
-    put(tablebase, held);
-    status
-}
-
-/// Calls a function with no tables. It is a function of its own, so that only it has room for a set.
+/// Calls a function with no tables; returns its status. It is a function of its own, so that only it has room for a set.
 #[cold]
 #[inline(never)]
 fn with_no_tables<F: FnMut(&mut MappedSet) -> u32>(alloc: Global, function: &mut F) -> u32
@@ -257,8 +238,13 @@ pub extern "C" fn szg_tablebase_wdl(
         Ok(position) => position,
         Err(status) => return *status,
     };
-    let mut look = |set: &mut MappedSet| class_in(set, position, class, lack);
-    with_tables(alloc, tablebase, &mut look)
+    let Some(mut held) = take(tablebase, alloc) else {
+        let mut look = |set: &mut MappedSet| class_in(set, position, class, lack);
+        return with_no_tables(alloc, &mut look);
+    };
+    let status = class_in(&mut held, position, class, lack);
+    put(tablebase, held);
+    status
 }
 
 /// Writes the class and the DTZ of a position by a set of tables; returns the status.
@@ -311,8 +297,13 @@ pub extern "C" fn szg_tablebase_dtz(
         Ok(position) => position,
         Err(status) => return *status,
     };
-    let mut look = |set: &mut MappedSet| distance_in(set, position, counter, distance, lack);
-    with_tables(alloc, tablebase, &mut look)
+    let Some(mut held) = take(tablebase, alloc) else {
+        let mut look = |set: &mut MappedSet| distance_in(set, position, counter, distance, lack);
+        return with_no_tables(alloc, &mut look);
+    };
+    let status = distance_in(&mut held, position, counter, distance, lack);
+    put(tablebase, held);
+    status
 }
 
 /// Returns a move as numbers.
@@ -397,6 +388,11 @@ pub extern "C" fn szg_tablebase_moves(
         Ok(position) => position,
         Err(status) => return *status,
     };
-    let mut look = |set: &mut MappedSet| moves_in(set, position, counter, moves, count, lack);
-    with_tables(alloc, tablebase, &mut look)
+    let Some(mut held) = take(tablebase, alloc) else {
+        let mut look = |set: &mut MappedSet| moves_in(set, position, counter, moves, count, lack);
+        return with_no_tables(alloc, &mut look);
+    };
+    let status = moves_in(&mut held, position, counter, moves, count, lack);
+    put(tablebase, held);
+    status
 }
