@@ -1,12 +1,12 @@
 //! Calls on a tablebase: tables are added by their bytes, and positions are probed with their captures, the right to
 //! capture en passant and the fifty-move counter.
-ghost use Rattle.std.specs.Prelude.{◌≡◌, ◌≤◌, ◌⊎◌, ◌++◌, [], Err, IfErr, IfOk, IfSome, List, MatchResult, Ok, drop, length, map};
+ghost use Rattle.std.specs.Prelude.{◌≡◌, ◌≤◌, ◌⊎◌, ◌++◌, [], Err, IfSome, List, MatchResult, Ok, drop, length, map};
 ghost use Rattle.std.specs.Fn.{CalledAtMut};
 ghost use Rattle.std.specs.declared.option.Option.TheVariants.{None, Some};
 ghost use Rattle.szg_file.specs.Unread.{unread_file};
 ghost use Rattle.szg_mapped.specs.InPlace.{InPlace};
 ghost use Rattle.szg_c.specs.Reported.{Stops};
-ghost use Rattle.szg_c.specs.Tablebases.{IsAdded, IsClassProbed, IsDistanceProbed, IsMissingReported, IsRankedWritten, IsTableOf, files_of, raw_move};
+ghost use Rattle.szg_c.specs.Tablebases.{IsAdded, IsClassProbed, IsDistanceProbed, IsMissingReported, IsRankedWritten, files_of, raw_move};
 ghost use Rattle.szg_c_positions.specs.Positions.{position_of};
 
 use crate::handle::{put, share, shut, take};
@@ -72,28 +72,6 @@ pub struct RawMove {
     pub stalemate: bool,
 }
 
-/// Opens the table of this name and kind whose file the bytes are.
-fn opened(
-    alloc: Global,
-    name: &[u8],
-    dtz: bool,
-    bytes: &'static [u8],
-    answer: &mut RawAnswer,
-) -> Result<MappedTable<'static>, u32>
-    ensures front { IfOk result (IsTableOf name.now dtz bytes.now) }
-    ensures stops { IfErr result (λ status. Stops unread_file name.now dtz bytes.now status answer.new.place answer.new.reason) }
-    ensures stays { IfErr result (λ status. (status ≡ 2 → ⊥) → answer.new ≡ answer.old) }
-    ensures kept { IfOk result (λ t. answer.new ≡ answer.old) }
-{
-    let Some(material) = material_of(name) else {
-        return Err(NAME);
-    };
-    match MappedTable::open(alloc, material, kind_of(dtz), bytes) {
-        Ok(table) => Ok(table),
-        Err(fault) => Err(fault_status(fault, answer)),
-    }
-}
-
 /// Calls a function with no tables; returns its status. It is a function of its own, so that only it has room for a set.
 #[cold]
 #[inline(never)]
@@ -123,9 +101,12 @@ pub extern "C" fn szg_tablebase_add(
     ensures kept { (result ≡ 0 → ⊥) → files_of tablebase.new.value ≡ files_of tablebase.old.value }
     ensures stays { (result ≡ 2 → ⊥) → answer.new ≡ answer.old }
 {
-    let table = match opened(alloc, name, dtz, bytes, answer) {
+    let Some(material) = material_of(name) else {
+        return NAME;
+    };
+    let table = match MappedTable::open(alloc, material, kind_of(dtz), bytes) {
         Ok(table) => table,
-        Err(status) => return status,
+        Err(fault) => return fault_status(fault, answer),
     };
     let mut tables = match take(tablebase, alloc) {
         Some(tables) => tables,
