@@ -1,8 +1,8 @@
 //! Calls on a tablebase: tables are added by their bytes, and positions are probed with their captures, the right to
 //! capture en passant and the fifty-move counter.
-ghost use Rattle.std.specs.Prelude.{◌≡◌, ◌≤◌, ◌⊎◌, ◌++◌, [], Err, IfSome, List, MatchResult, Ok, drop, length, map};
+ghost use Rattle.std.specs.Prelude.{◌≡◌, ◌≤◌, ◌⊎◌, ◌++◌, [], IfSome, List, MatchResult, drop, length, map};
 ghost use Rattle.std.specs.Fn.{CalledAtMut};
-ghost use Rattle.std.specs.declared.option.Option.TheVariants.{None, Some};
+ghost use Rattle.std.specs.declared.option.Option.TheVariants.{None};
 ghost use Rattle.szg_file.specs.Unread.{unread_file};
 ghost use Rattle.szg_mapped.specs.InPlace.{InPlace};
 ghost use Rattle.szg_c.specs.Reported.{Stops};
