@@ -7,30 +7,21 @@ ghost use Rattle.szg_words.specs.Men.{is_man_word, parsed_man, parsed_placement,
 use arrayvec::ArrayVec;
 use szg_values::{Color, MAX_MEN, Man, Placement, PlacementFault, Square};
 
-/// Why words make no placement.
-#[derive(Clone, Copy)]
-pub enum MenFault {
-    /// A word isn't a man's letter, a file and a rank.
-    Word,
-    /// The men make no placement.
-    Placement(PlacementFault),
-}
-
 /// Parses the placement of these words, with this mover.
 ///
-/// Errors: `Word` if a word is no man's, else `Placement` if the men make none.
+/// Errors: None if a word isn't a man's letter, a file and a rank; else why the men make no placement.
 #[tactic(auto, unfolding(crate::specs::Men::parsed_placement))]
-pub fn placement_in(words: &[&str], mover: Color) -> Result<Placement, MenFault>
+pub fn placement_in(words: &[&str], mover: Color) -> Result<Placement, Option<PlacementFault>>
     ensures { result ≡ parsed_placement words.now mover }
 {
     if !are_man_words(words) {
-        return Err(MenFault::Word);
+        return Err(None);
     }
     if words.len() > MAX_MEN {
-        return Err(MenFault::Placement(PlacementFault::Men));
+        return Err(Some(PlacementFault::Men));
     }
     let men = men_in(words);
-    Placement::new(men.as_slice(), mover).map_err(MenFault::Placement)
+    Placement::new(men.as_slice(), mover).map_err(Some)
 }
 
 /// Returns whether each word is a man's.

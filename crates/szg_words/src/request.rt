@@ -8,13 +8,13 @@ ghost use Rattle.szg_words.specs.Words.{is_word, number_of_class, number_of_form
 use crate::arguments::{Argument, BLOCK, FORM, INDEX, ROUNDS, SIDE, SPAN};
 use crate::command_line::{CommandForm, command_of, program};
 use crate::finding::Finder;
-use crate::men::{MenFault, placement_in};
+use crate::men::placement_in;
 use crate::numbers::number_of;
 use clap::error::ErrorKind;
 use clap::parser::ValueSource;
 use clap::{ArgMatches, Error};
 use std::alloc::{AllocError, Global};
-use szg_values::{Color, Kind, Placement};
+use szg_values::{Color, Kind, Placement, PlacementFault};
 
 /// The class of a placement for the side to move.
 #[derive(Clone, Copy)]
@@ -81,8 +81,8 @@ pub enum Action {
     Probe(Placement, AskedClass),
     /// The placement of an index.
     Placement(u64),
-    /// The words are no placement's.
-    Unplaced(MenFault),
+    /// The words make no placement. Carries why, or None if a word is no man's.
+    Unplaced(Option<PlacementFault>),
 }
 
 impl Action {
@@ -396,7 +396,7 @@ fn action_on_men(command: &str, chosen: &ArgMatches<'_>) -> Action
 /// What is asked of a placement, or why there is none.
 fn action_of_men(
     is_index: bool,
-    placement: Result<Placement, MenFault>,
+    placement: Result<Placement, Option<PlacementFault>>,
     class: AskedClass,
 ) -> Action
     ensures { result ≡ action_of_men is_index placement class }
