@@ -18,7 +18,6 @@ use Rattle.szg_archive.specs.Verdicts.{IsFoundReport, plain_options}
 use Rattle.szg_archive.specs.declared.log.Log.{Log}
 use Rattle.szg_archive.specs.declared.many.CheckReport.{CheckReport}
 use Rattle.szg_archive.specs.declared.options.CheckOptions.{CheckOptions}
-use Rattle.szg_archive.specs.declared.stop.CheckStop.TheVariants as check_stops
 use Rattle.szg_answers.specs.Answers.{IsAnswer}
 use Rattle.szg_answers.specs.Builds.{choice_of, IsBuiltIn, IsTextOf}
 use Rattle.szg_words.specs.Chosen.{AsksFor, AsksForJob, AsksForNoJob, AsksForNone}
@@ -114,9 +113,9 @@ EndsTask (endings.Words outcome) Done Refused Failed Short = ⊥
 
 -- Files were checked: all of them, or the writer failed, or memory was refused.
 abbrev pub AreChecked : Ending → (CheckReport → Type 0) → Type 0 → Type 0
-AreChecked (endings.Checked (Ok report)) Report Failed = Report report
-AreChecked (endings.Checked (Err check_stops.Device)) Report Failed = Failed
-AreChecked (endings.Checked (Err check_stops.Memory)) Report Failed = Unit {0}
+AreChecked (endings.Checked (Ok (Some report))) Report Failed = Report report
+AreChecked (endings.Checked (Ok None)) Report Failed = Failed
+AreChecked (endings.Checked (Err error)) Report Failed = Unit {0}
 AreChecked ending Report Failed = ⊥
 
 -- The manifest of what was checked is in the file that was asked for, or that could not be written.

@@ -13,8 +13,8 @@ use std::io::ErrorKind;
 use std::path::Path;
 use std::rt::Files;
 use szg_archive::{
-    CheckCounts, CheckOptions, CheckReport, CheckStop, Due, FileVerdict, check_path, due_of,
-    read_lists, summary_line, verdict_line,
+    CheckCounts, CheckOptions, CheckReport, Due, FileVerdict, check_path, due_of, read_lists,
+    summary_line, verdict_line,
 };
 use szg_build::StreamFault;
 use szg_files::{Draft, FileFault, FileSystem, Lock, Published, Reasons};
@@ -155,7 +155,7 @@ where
 
 /// Copies files into a folder; writes a line of each, and a summary.
 ///
-/// Errors: `Device` if the writer failed, `Memory` if an allocation was refused.
+/// None if the writer failed. Errors: an allocation was refused.
 fn copy_files<S: FileSystem, R: Files, W: Output>(
     alloc: Global,
     system: &mut S,
@@ -164,7 +164,7 @@ fn copy_files<S: FileSystem, R: Files, W: Output>(
     paths: &[&str],
     folder: &str,
     writer: &mut W,
-) -> Result<CheckReport, CheckStop>
+) -> Result<Option<CheckReport>, AllocError>
 where
     R::File: Lock,
 {
@@ -182,18 +182,18 @@ where
         let copied = copy_file(alloc, system, files, path, due, target.as_str())?;
         let line = verdict_line(alloc, copied.path, &copied.verdict, false)?;
         if give_whole(writer, &line).is_err() {
-            return Err(CheckStop::Device);
+            return Ok(None);
         }
         counts = counts.with(&copied.verdict, false);
     }
     let end = summary_line(alloc, &counts)?;
     if give_whole(writer, end.as_bytes()).is_err() {
-        return Err(CheckStop::Device);
+        return Ok(None);
     }
-    Ok(CheckReport {
+    Ok(Some(CheckReport {
         counts,
         manifest: Vec::new(alloc),
-    })
+    }))
 }
 
 /// Copies what a command line asks for: each table that passes its check, and the comparison with lists of sums if there are

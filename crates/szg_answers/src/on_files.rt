@@ -17,7 +17,7 @@ use crate::outcome::Outcome;
 use crate::refusal::{Refusal, Stop};
 use crate::saying::say;
 use crate::streaming::{device_stop, lists_values, stream_from};
-use std::alloc::Global;
+use std::alloc::{AllocError, Global};
 use std::rt::Files;
 use std::time::Clock;
 use szg_archive::{
@@ -250,8 +250,8 @@ pub enum LineKind {
 /// How a command line ended.
 #[derive(Drop)]
 pub enum Ending<'a> {
-    /// Files were checked, up to a fault of the output or of memory.
-    Checked(Result<CheckReport, szg_archive::CheckStop>),
+    /// Files were checked; or the output failed (None), or a growth was refused.
+    Checked(Result<Option<CheckReport>, AllocError>),
     /// Files were checked, and the list of the digests of those that passed was written, or could not be.
     Listed {
         report: CheckReport,
@@ -418,7 +418,7 @@ where
         Err(fault) => return failed_ending(target, fault),
     };
     match check_found(alloc, system, machine, options, paths, writer) {
-        Ok(report) => {
+        Ok(Some(report)) => {
             let written = list_into(draft, &report.manifest);
             Ending::Listed {
                 report,
@@ -426,9 +426,13 @@ where
                 written,
             }
         }
-        Err(stop) => {
+        Ok(None) => {
             draft.discard();
-            Ending::Checked(Err(stop))
+            Ending::Checked(Ok(None))
+        }
+        Err(error) => {
+            draft.discard();
+            Ending::Checked(Err(error))
         }
     }
 }

@@ -6,7 +6,7 @@ use Rattle.szg_archive.specs.declared.file_verdict.FileVerdict.{FileVerdict}
 use Rattle.szg_archive.specs.declared.file_verdict.FileVerdict.TheVariants.{Whole, Ending, Name, At, Trailing, Unopened, Unread, NoText, Empty, Skipped, Kept, Differs, Unlisted, Missing}
 use Rattle.szg_archive.specs.declared.file_verdict.Skip.{Skip}
 use Rattle.szg_archive.specs.declared.file_verdict.Skip.TheVariants as skips
-use Rattle.szg_archive.specs.declared.stop.CheckCounts.{CheckCounts}
+use Rattle.szg_archive.specs.declared.counts.CheckCounts.{CheckCounts}
 
 -- ---- paths
 

@@ -10,7 +10,7 @@ use Rattle.szg_archive.specs.declared.file_verdict.FileVerdict.{FileVerdict}
 use Rattle.szg_archive.specs.declared.file_verdict.FileVerdict.TheVariants.{Whole, Ending, Name, At, Trailing, Unopened, Unread, NoText, Empty, Skipped, Kept, Differs, Unlisted, Missing}
 use Rattle.szg_named.specs.declared.checks.ReportFormat.{ReportFormat}
 use Rattle.szg_named.specs.declared.checks.ReportFormat.TheVariants.{Text, Tsv, Json}
-use Rattle.szg_archive.specs.declared.stop.CheckCounts.{CheckCounts}
+use Rattle.szg_archive.specs.declared.counts.CheckCounts.{CheckCounts}
 
 -- ---- fields
 

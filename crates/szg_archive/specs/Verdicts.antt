@@ -35,7 +35,7 @@ use Rattle.szg_archive.specs.declared.many.CheckReport.{CheckReport}
 use Rattle.szg_archive.specs.declared.one.CheckedFile.{CheckedFile}
 use Rattle.szg_named.specs.declared.named.Naming.{Naming}
 use Rattle.szg_named.specs.declared.checks.ReportFormat.TheVariants as report_formats
-use Rattle.szg_archive.specs.declared.stop.CheckCounts.{CheckCounts}
+use Rattle.szg_archive.specs.declared.counts.CheckCounts.{CheckCounts}
 
 -- The verdict on an opened file. After a table there is the end of the file, or one more byte, which was read, too.
 abbrev pub IsVerdictOn : {F : Type 0} → input.Ghosts F → Sides → Kind → F → F → FileVerdict → Type 0

@@ -2,6 +2,7 @@
 #![tactic(auto)]
 
 mod check_paths;
+mod counts;
 mod due;
 mod entries;
 mod file_verdict;
@@ -14,9 +15,9 @@ mod one;
 mod options;
 mod reason_words;
 mod records;
-mod stop;
 
 pub use check_paths::files_to_check;
+pub use counts::CheckCounts;
 pub use due::{Due, due_of};
 pub use entries::{PathToCheck, entries_at, kind_at};
 pub use file_verdict::{FileVerdict, Skip};
@@ -27,4 +28,3 @@ pub use many::{CheckReport, check_entries, check_files, check_found};
 pub use one::{CheckedFile, check_path};
 pub use options::CheckOptions;
 pub use reason_words::reason_word;
-pub use stop::{CheckCounts, CheckStop};

@@ -3,9 +3,9 @@ ghost use Rattle.std.specs.Prelude.{◌≡◌, ◌++◌, ◌∷◌, [], ◌+◌,
 ghost use Rattle.szg_archive.specs.Records.{escaped_byte_in, escaped_in, json_byte};
 ghost use Rattle.szg_archive.specs.Lines.{IsLine, IsVerdictText, escaped, escaped_byte, hex_digit, path_text, skip_reason, more_text, summary_text};
 
+use crate::counts::CheckCounts;
 use crate::file_verdict::{FileVerdict, Skip};
 use crate::reason_words::reason_word;
-use crate::stop::CheckCounts;
 use std::alloc::{AllocError, Global};
 use szg_named::{ReportFormat, error_text, fault_text, name_word};
 

@@ -50,7 +50,8 @@ fn finish<'a>(ending: Ending<'a>, flushed: io::Result<()>) -> Ending<'a>
 fn is_refused(ending: &Ending<'_>) -> bool {
     match ending {
         Ending::Words(Outcome::Refused) | Ending::Refused => true,
-        Ending::Checked(Ok(report)) | Ending::Listed { report, .. } => report.counts.refused > 0,
+        Ending::Checked(Ok(Some(report))) | Ending::Listed { report, .. } => report.counts.refused
+            > 0,
         _ => false,
     }
 }

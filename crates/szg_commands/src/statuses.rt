@@ -8,7 +8,7 @@ use std::alloc::AllocError;
 use std::io;
 use std::process::ExitCode;
 use szg_answers::{Ending, FileFailure, LineKind, Outcome};
-use szg_archive::{CheckCounts, CheckStop, escaped_path};
+use szg_archive::{CheckCounts, escaped_path};
 use szg_named::fault_text;
 
 /// The status where the words of the command line can't be had: one is no text, or memory is short.
@@ -90,9 +90,9 @@ pub(crate) fn ending_status(
     }
     match ending {
         Ending::Words(outcome) => status_of(rt, &outcome),
-        Ending::Checked(Ok(report)) => tally_status(&report.counts),
-        Ending::Checked(Err(CheckStop::Device)) => status_of(rt, &Outcome::Device),
-        Ending::Checked(Err(CheckStop::Memory)) => status_of(rt, &Outcome::Memory),
+        Ending::Checked(Ok(Some(report))) => tally_status(&report.counts),
+        Ending::Checked(Ok(None)) => status_of(rt, &Outcome::Device),
+        Ending::Checked(Err(_)) => status_of(rt, &Outcome::Memory),
         Ending::Done(_) => status_of(rt, &Outcome::Done),
         Ending::Refused => status_of(rt, &Outcome::Refused),
         Ending::Failed(failure) => failure_status(rt, failure),

@@ -1,15 +1,5 @@
-//! The end of a command on files.
+//! The numbers of files that were checked.
 use crate::file_verdict::FileVerdict;
-use std::alloc::{AllocError, AllocFailed};
-
-/// Why a command ends before its last file.
-#[derive(Clone, Copy)]
-pub enum CheckStop {
-    /// The output failed.
-    Device,
-    /// An allocation was refused.
-    Memory,
-}
 
 /// The numbers of files that were good, refused, not read, or left out, and of paths that were skipped.
 #[derive(Clone, Copy)]
@@ -59,27 +49,5 @@ impl CheckCounts {
             _ => tally.refused += 1,
         }
         tally
-    }
-}
-
-impl From<AllocError> for CheckStop {
-    ghost use Rattle.std.specs.Prelude.{◌≡◌};
-    ghost use Rattle.szg_archive.specs.declared.stop.CheckStop.TheVariants.{Memory};
-
-    ghost from_gives = { λ _ stop. stop ≡ Memory };
-
-    fn from(_failed: AllocError) -> CheckStop {
-        CheckStop::Memory
-    }
-}
-
-impl<T: Drop> From<AllocFailed<T>> for CheckStop {
-    ghost use Rattle.std.specs.Prelude.{◌≡◌};
-    ghost use Rattle.szg_archive.specs.declared.stop.CheckStop.TheVariants.{Memory};
-
-    ghost from_gives = { λ _ stop. stop ≡ Memory };
-
-    fn from(_failed: AllocFailed<T>) -> CheckStop {
-        CheckStop::Memory
     }
 }
