@@ -2,7 +2,6 @@
 use Rattle.std.specs.Prelude.{ℕ, List, map, option_map, Option}
 use Rattle.szg_values.specs.declared.Kind.{Kind}
 use Rattle.szg_values.specs.Material.{Sides}
-use Rattle.szg_file.specs.declared.reading.Opening.{Opening}
 use Rattle.szg_file.specs.declared.reading.Pieces.{Pieces}
 use Rattle.szg_file.specs.Format.{Format, means, field, ◌>>=◌, ◌>>◌}
 use Rattle.szg_file.specs.Contents as held
@@ -36,15 +35,6 @@ measured_field list = do
 -- padding and the last sixteen bytes
 abbrev pub ending_field : Format (List ℕ)
 ending_field = filled_to 64 >> field 16 means
-
--- the contents of an opening that was read
-abbrev pub opened : Opening → Opened
-opened o = record {
-  byte4 = o.byte4;
-  parts = map part_of o.parts.bytes.items;
-  heads = map (λ begun. begun.subtable) o.heads.items;
-  maps = map (option_map map_of) o.maps.items;
-}
 
 -- the contents of a file that was read
 abbrev pub contents_of : Sides → Kind → Pieces → held.Contents

@@ -3,7 +3,6 @@ use Rattle.std.specs.Prelude.{ℕ, ◌+◌, ◌*◌, ◌≤◌, List, length, op
 use Rattle.std.specs.List.{sum_by}
 use Rattle.szg_block.specs.declared.Sub.{Sub}
 use Rattle.szg_file.specs.declared.reading.state.ReaderState.{ReaderState}
-use Rattle.szg_file.specs.declared.reading.Opening.{Opening}
 use Rattle.szg_file.specs.declared.reading.Pieces.{Pieces}
 use Rattle.szg_file.specs.declared.reading.FrontRead.{FrontRead}
 use Rattle.szg_file.specs.declared.table.PartBytes.{PartBytes}
@@ -36,11 +35,6 @@ abbrev pub maps_lengths : List (Option Map) → ℕ
 maps_lengths maps = sum_by (λ found. map_lengths (option_map map_of found)) maps
 
 -- ---- the total length of all lists
-
-abbrev pub opening_lengths : Opening → ℕ
-opening_lengths o =
-    length o.parts.bytes.items + parts_lengths o.parts.bytes.items + length o.heads.items + begun_lengths o.heads.items
-    + length o.maps.items + maps_lengths o.maps.items
 
 -- subtables count twice, since each has a slot as well
 abbrev pub front_lengths : FrontRead → ℕ

@@ -16,13 +16,13 @@ ghost use Rattle.szg_io.specs.Device.{HasFailed};
 ghost use Rattle.szg_io.specs.Moved.{Takes};
 ghost use Rattle.szg_file.specs.Format.{verdict};
 ghost use Rattle.szg_file.specs.Contents.{slots, Subtable};
-ghost use Rattle.szg_file.specs.File.{file, begun};
+ghost use Rattle.szg_file.specs.File.{file};
 ghost use Rattle.szg_file.specs.Accepted.{IsAccepted};
 ghost use Rattle.szg_file.specs.Held.{file_bytes, part_of};
 ghost use Rattle.szg_file.specs.Reading.{Reading, Lacking};
 ghost use Rattle.szg_file.specs.WholeRead.{FollowsVerdict, IsVerdict, TookBytes, list_lengths};
-ghost use Rattle.szg_file.specs.FilePieces.{opening_field, ending_field, opened, contents_of};
-ghost use Rattle.szg_file.specs.Grown.{HasCounted, opening_lengths, pieces_lengths, front_lengths};
+ghost use Rattle.szg_file.specs.FilePieces.{ending_field, contents_of};
+ghost use Rattle.szg_file.specs.Grown.{HasCounted, pieces_lengths, front_lengths};
 ghost use Rattle.szg_file.specs.FrontRead.{front_read};
 ghost use Rattle.szg_file.specs.Kept.{kept_front, ReadingOf, kept_contents};
 ghost use Rattle.szg_file.specs.Unread.{front_field};
@@ -32,7 +32,7 @@ ghost use Rattle.szg_file.specs.Outline.{outlined};
 ghost use Rattle.szg_file.specs.Placed.{Fits};
 ghost use Rattle.szg_file.specs.Streaming.{Accepted, wanted_of, IsScanned};
 
-use crate::begun::{Begun, Measured};
+use crate::begun::Measured;
 use crate::fault::ReadFault;
 use crate::reading::blocks::read_blocks;
 use crate::reading::dropping::{PlacedSub, pass_subs};
@@ -51,15 +51,6 @@ use szg_block::Sub;
 use szg_io::{Bytes, Input};
 use szg_values::{Kind, Material};
 
-/// The contents of a file up to its sparse indexes.
-#[derive(Drop)]
-pub struct Opening {
-    pub byte4: u8,
-    pub parts: Parts,
-    pub heads: Vec<Begun>,
-    pub maps: Vec<Option<Map>>,
-}
-
 /// The contents of a whole file, except its material and kind and its padding bytes.
 #[derive(Drop)]
 pub struct Pieces {
@@ -68,37 +59,6 @@ pub struct Pieces {
     pub subs: Vec<Sub>,
     pub maps: Vec<Option<Map>>,
     pub last: [u8; 16],
-}
-
-/// Reads the magic, byte 4, the parts, the headers and the maps.
-pub(crate) fn read_opening<R: Input>(
-    alloc: Global,
-    material: &Material,
-    kind: Kind,
-    input: &mut R,
-    state: &mut ReaderState,
-) -> Result<Opening, ReadFault>
-    requires place { state.old.place ≡ 0 }
-    requires growth { state.old.growth ≡ 0 }
-    ensures opening { Reading (opening_field material.now kind) opened state.old state.new R.Input input.old input.new result }
-    ensures slots { IfOk result (λ o. o.parts.slots.items ≡ slots material.now kind (map part_of o.parts.bytes.items)) }
-    ensures begun { IfOk result (λ o. o.heads.items ≡ begun (slots material.now kind (map part_of o.parts.bytes.items)) (map (λ begun. begun.subtable) o.heads.items)) }
-    ensures few { IfOk result (λ o. length o.heads.items ≤ 8) }
-    ensures place { OnOk result (state.new.place < 2 ^ 24) }
-    ensures growth { OnOk result (state.new.growth ≤ 2 * state.new.place + 20) }
-    ensures grown { IfOk result (λ o. HasCounted state.old state.new 0 (opening_lengths o)) }
-{
-    let byte4 = read_start(material, kind, input, state)?;
-    let parts = read_parts(alloc, material, kind, input, state)?;
-    take_fill(alloc, 2, input, state)?;
-    let heads = read_heads(alloc, parts.slots.as_slice(), input, state)?;
-    let maps = read_maps(alloc, kind, &heads, input, state)?;
-    Ok(Opening {
-        byte4,
-        parts,
-        heads,
-        maps,
-    })
 }
 
 /// The contents of a file up to its block lengths.
@@ -130,12 +90,11 @@ pub(crate) fn read_front<R: Input>(
     ensures growth { OnOk result (state.new.growth ≤ 2 * state.new.place + 36) }
     ensures grown { IfOk result (λ f. HasCounted state.old state.new 0 (front_lengths f)) }
 {
-    let Opening {
-        byte4,
-        parts,
-        heads,
-        maps,
-    } = read_opening(alloc, material, kind, input, state)?;
+    let byte4 = read_start(material, kind, input, state)?;
+    let parts = read_parts(alloc, material, kind, input, state)?;
+    take_fill(alloc, 2, input, state)?;
+    let heads = read_heads(alloc, parts.slots.as_slice(), input, state)?;
+    let maps = read_maps(alloc, kind, &heads, input, state)?;
     let measured = read_lengths(alloc, heads, all, input, state)?;
     Ok(FrontRead {
         byte4,
