@@ -3,7 +3,6 @@ use Rattle.std.specs.Prelude.{ℕ, ◌+◌, ◌*◌, ◌≤◌, List, length, op
 use Rattle.std.specs.List.{sum_by}
 use Rattle.szg_block.specs.declared.Sub.{Sub}
 use Rattle.szg_file.specs.declared.reading.state.ReaderState.{ReaderState}
-use Rattle.szg_file.specs.declared.reading.Pieces.{Pieces}
 use Rattle.szg_file.specs.declared.reading.FrontRead.{FrontRead}
 use Rattle.szg_file.specs.declared.table.PartBytes.{PartBytes}
 use Rattle.szg_file.specs.declared.table.Map.{Map}
@@ -41,8 +40,3 @@ abbrev pub front_lengths : FrontRead → ℕ
 front_lengths f =
     length f.parts.bytes.items + parts_lengths f.parts.bytes.items + 2 * length f.measured.items + begun_lengths f.measured.items
     + length f.maps.items + maps_lengths f.maps.items
-
-abbrev pub pieces_lengths : Pieces → ℕ
-pieces_lengths p =
-    length p.parts.bytes.items + parts_lengths p.parts.bytes.items + 2 * length p.subs.items + subs_lengths p.subs.items
-    + length p.maps.items + maps_lengths p.maps.items

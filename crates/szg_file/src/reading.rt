@@ -21,8 +21,8 @@ ghost use Rattle.szg_file.specs.Accepted.{IsAccepted};
 ghost use Rattle.szg_file.specs.Held.{file_bytes, part_of};
 ghost use Rattle.szg_file.specs.Reading.{Reading, Lacking};
 ghost use Rattle.szg_file.specs.WholeRead.{FollowsVerdict, IsVerdict, TookBytes, list_lengths};
-ghost use Rattle.szg_file.specs.FilePieces.{ending_field, contents_of};
-ghost use Rattle.szg_file.specs.Grown.{HasCounted, pieces_lengths, front_lengths};
+ghost use Rattle.szg_file.specs.FilePieces.{ending_field};
+ghost use Rattle.szg_file.specs.Grown.{HasCounted, front_lengths};
 ghost use Rattle.szg_file.specs.FrontRead.{front_read};
 ghost use Rattle.szg_file.specs.Kept.{kept_front, ReadingOf, kept_contents};
 ghost use Rattle.szg_file.specs.Unread.{front_field};
@@ -47,19 +47,8 @@ use crate::reading::taking::{take_field, take_fill};
 use crate::table::{Map, Table};
 use crate::table_index::{TableIndex, index_of_placed, index_of_subs};
 use std::alloc::Global;
-use szg_block::Sub;
 use szg_io::{Bytes, Input};
 use szg_values::{Kind, Material};
-
-/// The contents of a whole file, except its material and kind and its padding bytes.
-#[derive(Drop)]
-pub struct Pieces {
-    pub byte4: u8,
-    pub parts: Parts,
-    pub subs: Vec<Sub>,
-    pub maps: Vec<Option<Map>>,
-    pub last: [u8; 16],
-}
 
 /// The contents of a file up to its block lengths.
 #[derive(Drop)]
@@ -123,38 +112,6 @@ pub(crate) fn read_ending<R: Input>(
     Ok(last)
 }
 
-/// Reads a whole file.
-fn read_pieces<R: Input>(
-    alloc: Global,
-    material: &Material,
-    kind: Kind,
-    input: &mut R,
-    state: &mut ReaderState,
-) -> Result<Pieces, ReadFault>
-    requires place { state.old.place ≡ 0 }
-    requires growth { state.old.growth ≡ 0 }
-    ensures pieces { Reading (file material.now kind) (contents_of material.now kind) state.old state.new R.Input input.old input.new result }
-    ensures memory { IsErrOf result ReadFault.Memory → Lacking (file material.now kind) state.old R.Input input.old input.new }
-    ensures slots { IfOk result (λ p. p.parts.slots.items ≡ slots material.now kind (map part_of p.parts.bytes.items)) }
-    ensures grown { IfOk result (λ p. HasCounted state.old state.new 0 (pieces_lengths p)) }
-{
-    let FrontRead {
-        byte4,
-        parts,
-        maps,
-        measured,
-    } = read_front(alloc, material, kind, true, input, state)?;
-    let subs = read_blocks(alloc, measured, input, state)?;
-    let last = read_ending(alloc, input, state)?;
-    Ok(Pieces {
-        byte4,
-        parts,
-        subs,
-        maps,
-        last,
-    })
-}
-
 /// Reads a table of this material and kind. It reads exactly the bytes of the table's file.
 ///
 /// Errors: `Refused` with the first failing check and its offset; the bytes up to the end of the field that it
@@ -182,13 +139,14 @@ pub fn read<R: Input>(
     ensures quiet { (IsErrOf result ReadFault.Device → ⊥) → R.failures input.new ≡ R.failures input.old }
 {
     let mut state = ReaderState::new(alloc);
-    let Pieces {
+    let FrontRead {
         byte4,
         parts,
-        subs,
         maps,
-        last,
-    } = read_pieces(alloc, &material, kind, input, &mut state)?;
+        measured,
+    } = read_front(alloc, &material, kind, true, input, &mut state)?;
+    let subs = read_blocks(alloc, measured, input, &mut state)?;
+    let last = read_ending(alloc, input, &mut state)?;
     let index = index_of_subs(material, kind, parts, &subs, maps);
     Ok(Table {
         index,
