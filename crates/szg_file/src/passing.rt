@@ -6,7 +6,7 @@ ghost use Rattle.szg_file.specs.Held.{subtable_of, map_of};
 use crate::begun::Slot;
 use crate::lookup::{flags_of, has_bit};
 use crate::table::Map;
-use crate::typed::sub_fits;
+use crate::typed::{bytes_fit, sub_fits, words_fit};
 use szg_block::{Sub, check, shaped};
 use szg_values::Kind;
 
@@ -43,36 +43,26 @@ pub(crate) fn are_subs_valid(slots: &[Slot], subs: &[Sub]) -> bool
 
 // ---- maps
 
-/// Returns whether the length of a list fits one byte.
-fn short_list_fits(list: &[u8]) -> bool
-    ensures { IsTrue result ↔ ((length list.now < 256 ^ 1) × AreNumbers 1 list.now) }
-{
-    list.len() < 256
-}
-
-/// Returns whether the length of a list fits two bytes.
-fn wide_list_fits(list: &[u16]) -> bool
-    ensures { IsTrue result ↔ ((length list.now < 256 ^ 2) × AreNumbers 2 list.now) }
-{
-    list.len() < 65536
-}
-
+/// Returns whether the length of each list fits one byte.
 fn short_lists_fit(lists: &[Vec<u8>; 4]) -> bool
     ensures { IsTrue result ↔ AreLists 1 (map (λ list. list.items) lists.now) }
 {
     'lists: for list in lists {
-        if !short_list_fits(list) {
+        bytes_fit(list);
+        if list.len() >= 256 {
             return false;
         }
     }
     true
 }
 
+/// Returns whether the length of each list fits two bytes.
 fn wide_lists_fit(lists: &[Vec<u16>; 4]) -> bool
     ensures { IsTrue result ↔ AreLists 2 (map (λ list. list.items) lists.now) }
 {
     'lists: for list in lists {
-        if !wide_list_fits(list) {
+        words_fit(list);
+        if list.len() >= 65536 {
             return false;
         }
     }
