@@ -1,6 +1,5 @@
 //! Look-ups in a table that was opened by its front: the block of a value is verified before the value is decoded.
-ghost use Rattle.std.specs.Prelude.{◌≡◌, ◌+◌, ◌<◌, ◌^◌, None, IfNone, IfSome, length};
-ghost use Rattle.szg_block.specs.BlocksTrait.{bytes_at};
+ghost use Rattle.std.specs.Prelude.{◌≡◌, ◌+◌, ◌<◌, ◌^◌, None, IfNone, IfSome};
 ghost use Rattle.szg_block.specs.Kept.{IsLocatable};
 ghost use Rattle.szg_block.specs.Subtable.{layout_of, IsHeaded};
 ghost use Rattle.szg_file.specs.Fetching.{IsSpot};
@@ -57,20 +56,6 @@ fn spot_of(found: &Slotted, i: u64) -> Option<BlockSpot>
         offset: placed.first + u64::from(value.block) * count,
         count,
     })
-}
-
-/// Returns `count` bytes from `offset` on. None if there are fewer.
-fn bytes_from(bytes: &[u8], offset: u64, count: u64) -> Option<&[u8]>
-    ensures there { IfSome result (λ chunk. chunk.now ≡ bytes_at bytes.now offset count) }
-    ensures whole { IfSome result (λ chunk. length chunk.now ≡ count) }
-    ensures none { IfNone result (length bytes.now < offset + count) }
-{
-    let length = bytes.len() as u64;
-    if offset > length || count > length - offset {
-        return None;
-    }
-    let first = offset as usize;
-    Some(&bytes[first..first + count as usize])
 }
 
 /// A value of a table that was opened by its front, with the location of its block.
@@ -189,7 +174,8 @@ impl FrontTable {
         let Some(range) = located.range() else {
             return located.decode(&[]);
         };
-        let Some(block) = bytes_from(bytes, range.offset, range.count) else {
+        let first = range.offset as usize;
+        let Some(block) = bytes.get(first..first + range.count as usize) else {
             return Err(FetchFault::Source);
         };
         located.decode(block)
