@@ -174,27 +174,18 @@ impl Table {
         let Some(placed) = slots_of(&fields.material, fields.kind, &fields.parts) else {
             unreachable!()
         };
-        let Fields {
-            material,
-            kind,
-            byte4,
-            parts,
-            subs,
-            maps,
-            fill,
-            last,
-        } = fields;
         let parts = Parts {
-            bytes: parts,
+            bytes: fields.parts,
             slots: placed,
         };
-        let index = index_of_subs(material, kind, parts, &subs, maps);
+        let subs = fields.subs;
+        let index = index_of_subs(fields.material, fields.kind, parts, &subs, fields.maps);
         Table {
             index,
-            byte4,
+            byte4: fields.byte4,
             subs,
-            filled: fill,
-            last,
+            filled: fields.fill,
+            last: fields.last,
         }
     }
 }

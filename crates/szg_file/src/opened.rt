@@ -15,9 +15,9 @@ use crate::lookup::{Slotted, constant_value, slotted_at};
 use crate::opened::forward::Forward;
 use crate::reading::blocks::block_bytes;
 use crate::reading::dropping::PlacedSub;
+use crate::reading::read_outline;
 use crate::reading::sink::NoSink;
 use crate::reading::state::ReaderState;
-use crate::reading::{Outline, read_outline};
 use crate::table_index::{TableIndex, index_of_placed};
 use std::alloc::Global;
 use std::marker::Model;
@@ -169,16 +169,9 @@ pub fn open<S: Source + Drop>(
         &mut NoSink,
         &mut (),
     ) {
-        Ok(
-            Outline {
-                byte4: _,
-                parts,
-                subs,
-                maps,
-                last: _,
-            },
-        ) => {
-            let index = index_of_placed(material, kind, parts, &subs, maps);
+        Ok(outline) => {
+            let subs = outline.subs;
+            let index = index_of_placed(material, kind, outline.parts, &subs, outline.maps);
             Ok(Opened {
                 index,
                 subs,

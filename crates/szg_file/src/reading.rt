@@ -139,18 +139,13 @@ pub fn read<R: Input>(
     ensures quiet { (IsErrOf result ReadFault.Device → ⊥) → R.failures input.new ≡ R.failures input.old }
 {
     let mut state = ReaderState::new(alloc);
-    let FrontRead {
-        byte4,
-        parts,
-        maps,
-        measured,
-    } = read_front(alloc, &material, kind, true, input, &mut state)?;
-    let subs = read_blocks(alloc, measured, input, &mut state)?;
+    let front = read_front(alloc, &material, kind, true, input, &mut state)?;
+    let subs = read_blocks(alloc, front.measured, input, &mut state)?;
     let last = read_ending(alloc, input, &mut state)?;
-    let index = index_of_subs(material, kind, parts, &subs, maps);
+    let index = index_of_subs(material, kind, front.parts, &subs, front.maps);
     Ok(Table {
         index,
-        byte4,
+        byte4: front.byte4,
         subs,
         filled: state.fill,
         last,
@@ -205,19 +200,14 @@ pub(crate) fn read_outline<R: Input, W, K: ValueSink<W>>(
     ensures fits { IfOk result (λ o. AllByRecursion (Fits (length (R.moved input.new)) (length buffer.new.items)) o.subs.items) }
     ensures accepted { IfOk result (λ o. Accepted K.accepts (wanted_of (K.wanted sink.old) (outlined material.now kind (R.moved input.new) o)) sink.old out.old sink.new out.new) }
 {
-    let FrontRead {
-        byte4,
-        parts,
-        maps,
-        measured,
-    } = read_front(alloc, material, kind, all, input, state)?;
-    let subs = pass_subs(alloc, kind, measured, buffer, input, state, sink, out)?;
+    let front = read_front(alloc, material, kind, all, input, state)?;
+    let subs = pass_subs(alloc, kind, front.measured, buffer, input, state, sink, out)?;
     let last = read_ending(alloc, input, state)?;
     Ok(Outline {
-        byte4,
-        parts,
+        byte4: front.byte4,
+        parts: front.parts,
         subs,
-        maps,
+        maps: front.maps,
         last,
     })
 }
@@ -255,17 +245,13 @@ pub fn scan<R: Input, W, K: ValueSink<W>>(
 {
     let mut state = ReaderState::new(alloc);
     let mut block = Vec::new(alloc);
-    let Outline {
-        byte4: _,
-        parts,
-        subs,
-        maps,
-        last,
-    } = read_outline(
+    let outline = read_outline(
         alloc, &material, kind, false, &mut block, input, &mut state, sink, out,
     )?;
+    let subs = outline.subs;
+    let last = outline.last;
     Ok(Scanned {
-        index: index_of_placed(material, kind, parts, &subs, maps),
+        index: index_of_placed(material, kind, outline.parts, &subs, outline.maps),
         last,
         length: state.place,
     })

@@ -183,22 +183,16 @@ fn front_table(
     ensures refused { IfErr result (λ fault. (all : Bool) (content : List ℕ) → length content ≡ size → BeginsWithKept all material kind (front_read read) place content → IsFrontFault (verdict (unread_file material kind) 0 content) fault) }
     ensures never { IsErrOf result ReadFault.Device → ⊥ }
 {
-    let FrontRead {
-        byte4,
-        parts,
-        maps,
-        measured,
-    } = read;
-    let placed = place_subs(alloc, measured, place)?;
+    let placed = place_subs(alloc, read.measured, place)?;
     let ending = placed.end + padding_to_64(placed.end);
     if size < ending + 16 {
         let (place, reason) = (size, Reason::Truncated);
         return Err(ReadFault::Refused { place, reason });
     }
-    let index = index_of_placed(material, kind, parts, &placed.subs, maps);
+    let index = index_of_placed(material, kind, read.parts, &placed.subs, read.maps);
     Ok(FrontTable {
         index,
-        byte4,
+        byte4: read.byte4,
         length: size,
         ending,
         room: placed.room,

@@ -20,29 +20,29 @@ use Rattle.szg_file.proofs.Readers.PlacedSubs.{kept_whole, still_fit}
 use Rattle.szg_file.proofs.Readers.Streamed.{accepted_as}
 use Rattle.szg_file.proofs.reading.read_outline.Goals as goal
 
-pub returns-in_err-byte4 : goal.returns-in_err-byte4
-returns-in_err-byte4 g c =
+pub returns-in_err-front : goal.returns-in_err-front
+returns-in_err-front g c =
     let m : Sides = c.args.material.now in
     let k : Kind = c.args.kind in
     let p = err_from_is_err_and c.from_residual.result c.from_residual.ensures.1 in
-    let stops = front_stops m k (λ (f : FrontRead). f) (λ (t : Contents). t) c.in_err-byte4.field-0.0 c.in_err-byte4.ensures.front in
+    let stops = front_stops m k (λ (f : FrontRead). f) (λ (t : Contents). t) c.in_err-front.field-0.0 c.in_err-front.ensures.front in
     rw (p.1, p.2) (record { outline = stops.read; place = tt; memory = λ e. stops.lacks (memory_as e); slots = tt; fits = tt; accepted = tt })
 
 pub pass_subs-requires-clause-at : goal.pass_subs-requires-clause-at
 pass_subs-requires-clause-at g c =
     let none : length (g.R.Input.moved c.args.input.now) ≡ 0 = ap (λ (z : List ℕ). length z) c.requires.first in
-    let read = c.in_ok-byte4.ensures.front in
-    valid_at (front_field c.args.material.now c.args.kind) (λ _. read.0) c.in_ok-byte4.field-0 (c.requires.place ∙ sym none) read.2
+    let read = c.in_ok-front.ensures.front in
+    valid_at (front_field c.args.material.now c.args.kind) (λ _. read.0) c.in_ok-front.front (c.requires.place ∙ sym none) read.2
 
 pub returns-in_err-subs : goal.returns-in_err-subs
 returns-in_err-subs g c =
     let m : Sides = c.args.material.now in
     let k : Kind = c.args.kind in
     let p = err_from_is_err_and c.from_residual-in_err-subs.result c.from_residual-in_err-subs.ensures.1 in
-    let read = c.in_ok-byte4.ensures.front in
-    let same : c.in_ok-byte4.field-0.measured.items ≡ kept_measured c.args.all read.0.measured = ap (λ (f : FrontRead). f.measured) read.1 in
+    let read = c.in_ok-front.ensures.front in
+    let same : c.in_ok-front.front.measured.items ≡ kept_measured c.args.all read.0.measured = ap (λ (f : FrontRead). f.measured) read.1 in
     let moved : List ℕ = g.R.Input.moved c.pass_subs.new.input in
-    let stops = kept_blocks_stop c.args.all m k c.in_ok-byte4.field-0 _ read.0 same read.2 (λ subs. map (whole_sub moved) subs.items) (λ (t : Contents). t) c.in_err-subs.field-0.0 c.in_err-subs.ensures.blocks in
+    let stops = kept_blocks_stop c.args.all m k c.in_ok-front.front _ read.0 same read.2 (λ subs. map (whole_sub moved) subs.items) (λ (t : Contents). t) c.in_err-subs.field-0.0 c.in_err-subs.ensures.blocks in
     rw (p.1, p.2) (record { outline = stops.read; place = tt; memory = λ e. stops.lacks (memory_as e); slots = tt; fits = tt; accepted = tt })
 
 pub returns-in_err-last : goal.returns-in_err-last
@@ -50,11 +50,11 @@ returns-in_err-last g c =
     let m : Sides = c.args.material.now in
     let k : Kind = c.args.kind in
     let p = err_from_is_err_and c.from_residual-in_err-last.result c.from_residual-in_err-last.ensures.1 in
-    let read = c.in_ok-byte4.ensures.front in
-    let same : c.in_ok-byte4.field-0.measured.items ≡ kept_measured c.args.all read.0.measured = ap (λ (f : FrontRead). f.measured) read.1 in
+    let read = c.in_ok-front.ensures.front in
+    let same : c.in_ok-front.front.measured.items ≡ kept_measured c.args.all read.0.measured = ap (λ (f : FrontRead). f.measured) read.1 in
     let before : List ℕ = g.R.Input.moved c.pass_subs.new.input in
-    let blocks = whole_blocks c.args.all m k c.in_ok-byte4.field-0 _ read.0 same read.2 (λ subs. map (whole_sub before) subs.items) c.in_ok-subs.subs c.in_ok-subs.ensures.blocks in
-    let stops = kept_ending_stops c.args.all m k c.in_ok-byte4.field-0 _ read.0 same read.2 c.in_ok-subs.subs _ (λ (t : Contents). t) c.in_err-last.field-0.0 blocks
+    let blocks = whole_blocks c.args.all m k c.in_ok-front.front _ read.0 same read.2 (λ subs. map (whole_sub before) subs.items) c.in_ok-subs.subs c.in_ok-subs.ensures.blocks in
+    let stops = kept_ending_stops c.args.all m k c.in_ok-front.front _ read.0 same read.2 c.in_ok-subs.subs _ (λ (t : Contents). t) c.in_err-last.field-0.0 blocks
     (record { read = c.in_err-last.ensures.ending; lacks = c.in_err-last.ensures.memory }) in
     rw (p.1, p.2) (record { outline = stops.read; place = tt; memory = λ e. stops.lacks (memory_as e); slots = tt; fits = tt; accepted = tt })
 
@@ -62,8 +62,8 @@ pub returns-clause-outline : goal.returns-clause-outline
 returns-clause-outline g c =
     let m : Sides = c.args.material.now in
     let k : Kind = c.args.kind in
-    let r = c.in_ok-byte4.field-0 in
-    let read = c.in_ok-byte4.ensures.front in
+    let r = c.in_ok-front.front in
+    let read = c.in_ok-front.ensures.front in
     let same : r.measured.items ≡ kept_measured c.args.all read.0.measured = ap (λ (f : FrontRead). f.measured) read.1 in
     let subs : List PlacedSub = c.in_ok-subs.subs.items in
     let before : List ℕ = g.R.Input.moved c.pass_subs.new.input in
@@ -75,7 +75,7 @@ returns-clause-outline g c =
     let blocks = whole_blocks c.args.all m k r _ read.0 same read.2 (λ subs. map (whole_sub before) subs.items) c.in_ok-subs.subs c.in_ok-subs.ensures.blocks in (
       unread_table m k read.0 blocks.subs c.in_ok-last.last,
       ap (λ (l : List Subtable). unread_table m k (front_read r) l c.in_ok-last.last) kept
-          ∙ kept_outline c.args.all m k (front_read r) read.0 blocks.subs (map (whole_sub before) subs) c.in_ok-last.last read.1 blocks.shown_is blocks.many c.in_ok-byte4.ensures.slotted,
+          ∙ kept_outline c.args.all m k (front_read r) read.0 blocks.subs (map (whole_sub before) subs) c.in_ok-last.last read.1 blocks.shown_is blocks.many c.in_ok-front.ensures.slotted,
       kept_file_read c.args.all m k r _ read.0 same read.2 c.in_ok-subs.subs _ c.in_ok-last.last _ blocks c.in_ok-last.ensures.ending,
     )
 
@@ -94,7 +94,7 @@ pub returns-clause-accepted : goal.returns-clause-accepted
 returns-clause-accepted g c =
     let m : Sides = c.args.material.now in
     let k : Kind = c.args.kind in
-    let parts : List Part = map part_of c.in_ok-byte4.field-0.parts.bytes.items in
+    let parts : List Part = map part_of c.in_ok-front.front.parts.bytes.items in
     let subs : List PlacedSub = c.in_ok-subs.subs.items in
     let before : List ℕ = g.R.Input.moved c.pass_subs.new.input in
     let following : List ℕ = g.R.Input.moved c.read_ending.new.input in
@@ -103,6 +103,6 @@ returns-clause-accepted g c =
     let kept : map (whole_sub following) subs ≡ map (whole_sub before) subs =
     ap (λ (z : List ℕ). map (whole_sub z) subs) gone ∙ kept_whole before bytes _ subs c.in_ok-subs.ensures.fits in
     let wanted : ℕ → ℕ → Bool = g.K.ValueSink.wanted c.args.sink.now in
-    let many : length (map (whole_sub before) subs) ≡ length c.in_ok-byte4.field-0.measured.items = length-map subs (whole_sub before) ∙ c.in_ok-subs.ensures.many in
-    let same = ap (wanted_values wanted k) (c.in_ok-byte4.ensures.slotted (map (whole_sub before) subs) many ∙ ap (slotted (slots m k parts)) (sym kept)) in
+    let many : length (map (whole_sub before) subs) ≡ length c.in_ok-front.front.measured.items = length-map subs (whole_sub before) ∙ c.in_ok-subs.ensures.many in
+    let same = ap (wanted_values wanted k) (c.in_ok-front.ensures.slotted (map (whole_sub before) subs) many ∙ ap (slotted (slots m k parts)) (sym kept)) in
     accepted_as g.K.ValueSink.accepts _ (wanted_values wanted k (slotted (slots m k parts) (map (whole_sub following) subs))) same c.in_ok-subs.ensures.accepted

@@ -25,15 +25,15 @@ use Rattle.szg_file.proofs.reading.scan.Goals as goal
 length_is : (place from : ℕ) (bytes all : List ℕ) → place ≡ from + length bytes → from ≡ 0 → bytes ≡ all → place ≡ length all
 length_is place from bytes all there first same = omega (arith, there, first, ap length same)
 
-pub returns-in_err-parts-clause-scanned : goal.returns-in_err-parts-clause-scanned
-returns-in_err-parts-clause-scanned g c =
+pub returns-in_err-outline-clause-scanned : goal.returns-in_err-outline-clause-scanned
+returns-in_err-outline-clause-scanned g c =
     let m : Sides = c.args.material in
     let k : Kind = c.args.kind in
-    let fault : ReadFault = c.in_err-parts.field-0.0 in
+    let fault : ReadFault = c.in_err-outline.field-0.0 in
     let p = err_from_is_err_and c.from_residual.result c.from_residual.ensures.1 in
     let view = λ (t : Contents). t in
-    let follows = fault_follows (file m k) view fault c.new-state.ensures.place c.in_err-parts.ensures.outline (λ e. c.in_err-parts.ensures.memory (memory_as e)) in
-    let took = fault_took m k view fault c.new-state.ensures.place c.in_err-parts.ensures.outline (λ e. c.in_err-parts.ensures.memory (memory_as e)) in
+    let follows = fault_follows (file m k) view fault c.new-state.ensures.place c.in_err-outline.ensures.outline (λ e. c.in_err-outline.ensures.memory (memory_as e)) in
+    let took = fault_took m k view fault c.new-state.ensures.place c.in_err-outline.ensures.outline (λ e. c.in_err-outline.ensures.memory (memory_as e)) in
     rw (p.1, p.2)
     (record { table = tt; follows = follows; bytes = took.0; taken = took.1; took = took.2 })
 
@@ -41,9 +41,9 @@ pub index_of_placed-requires-clause-is_valid : goal.index_of_placed-requires-cla
 index_of_placed-requires-clause-is_valid g c =
     let m : Sides = c.args.material in
     let k : Kind = c.args.kind in
-    let o : Outline = c.in_ok-parts.field-0 in
+    let o : Outline = c.in_ok-outline.outline in
     let bytes : List ℕ = g.R.Input.moved c.read_outline.new.input in
-    let read = c.in_ok-parts.ensures.outline in
+    let read = c.in_ok-outline.ensures.outline in
     let t : Contents = read.0 in
     let h = read.2 in
     let w = whole_file m k t c.new-state.result c.read_outline.new.state h.bytes c.new-state.ensures.place c.new-state.ensures.fill h.answer.0 in
@@ -55,9 +55,9 @@ pub returns-clause-scanned : goal.returns-clause-scanned
 returns-clause-scanned g c =
     let m : Sides = c.args.material in
     let k : Kind = c.args.kind in
-    let o : Outline = c.in_ok-parts.field-0 in
+    let o : Outline = c.in_ok-outline.outline in
     let bytes : List ℕ = g.R.Input.moved c.read_outline.new.input in
-    let read = c.in_ok-parts.ensures.outline in
+    let read = c.in_ok-outline.ensures.outline in
     let t : Shown = record { contents = read.0; filled = c.read_outline.new.state.fill.items } in
     let h = read.2 in
     let w = whole_file m k t.contents c.new-state.result c.read_outline.new.state h.bytes c.new-state.ensures.place c.new-state.ensures.fill h.answer.0 in
@@ -78,5 +78,5 @@ returns-clause-scanned g c =
       last_is = ap (λ (x : Contents). x.last) read.1;
       length_is = length_is c.read_outline.new.state.place c.new-state.result.place h.bytes (file_bytes t) h.answer.0.place c.new-state.ensures.place w.file_is;
       accepted = accepted_as g.K.ValueSink.accepts _ (wanted_of (g.K.ValueSink.wanted c.args.sink.now) t.contents)
-          (ap (wanted_of (g.K.ValueSink.wanted c.args.sink.now)) read.1 ∙ kept_wanted_of (g.K.ValueSink.wanted c.args.sink.now) t.contents) c.in_ok-parts.ensures.accepted;
+          (ap (wanted_of (g.K.ValueSink.wanted c.args.sink.now)) read.1 ∙ kept_wanted_of (g.K.ValueSink.wanted c.args.sink.now) t.contents) c.in_ok-outline.ensures.accepted;
     }
