@@ -18,7 +18,7 @@ returns g c =
     let table : is_table c.in_ok-found.found ≡ true = search rules in
     let end = on_ok c.read_on.result (sym c.is_err.ensures.value ∙ c.if-is_err.false) c.read_on.ensures.end in
     let met : c.if-is_met.verdict ≡ (if c.compared-input.result.1 then c.in_ok-found.found else Differs) =
-        elim c.if-is_met.branch [ then-is_met w ↦ rw (w.if-is_met.true) w.verdict-is | else-is_met w ↦ rw (w.if-is_met.false) w.verdict-is ] in
+    elim c.if-is_met.branch [ then-is_met w ↦ rw (w.if-is_met.true) w.verdict-is | else-is_met w ↦ rw (w.if-is_met.false) w.verdict-is ] in
     compared g.F.Input (λ m. bytes_eq (g.H.Hasher.sum_of m) c.args.due.now) c.args.material.now c.args.kind c.args.file _ c.new-hashed.result c.check_opened.new.file c.read_on.new.input c.in_ok-found.found _ c.new-hashed.ensures (search rules)
     c.in_ok-found.ensures table
     (inl (end, (c.read_on.ensures.rest.0, c.read_on.ensures.rest.1), met ∙ ap (λ (b : Bool). if b then c.in_ok-found.found else Differs) c.compared-input.ensures.met))
