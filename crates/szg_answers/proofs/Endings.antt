@@ -1,6 +1,6 @@
 -- Facts under an ending.
 use Rattle.std.specs.Borrow.{Bor}
-use Rattle.std.proofs.Common.{◌≡◌, ◌⊎◌, ◌==◌, ℕ, Bool, true, false, List, [], ◌∷◌, length, Option, None, Some, Result, Ok, Err, IfOk, IsErrOf, inl, inr, refl, sym, subst, arith}
+use Rattle.std.proofs.Common.{◌≡◌, ◌⊎◌, ◌==◌, ℕ, Bool, true, false, List, [], ◌∷◌, length, Option, None, Some, Result, Ok, Err, IfNone, IfOk, IfSome, inl, inr, refl, sym, subst, arith}
 use Rattle.std.proofs.lemmas.Bool.{eqb-true}
 use Rattle.clap.specs.declared.parser.matches.ArgMatches.{ArgMatches}
 use Rattle.szg_files.specs.Draft.{published_target, published_text}
@@ -19,8 +19,7 @@ use Rattle.szg_io.specs.declared.device.Input as input
 use Rattle.szg_io.specs.declared.device.Output as output
 use Rattle.szg_archive.specs.Verdicts.{IsFoundReport}
 use Rattle.szg_archive.specs.declared.options.CheckOptions.{CheckOptions}
-use Rattle.szg_archive.specs.declared.stop.CheckStop.{CheckStop}
-use Rattle.szg_archive.specs.declared.stop.CheckStop.TheVariants as check_stops
+use Rattle.std.specs.declared.alloc.AllocError.{AllocError}
 use Rattle.szg_archive.specs.declared.many.CheckReport.{CheckReport}
 use Rattle.szg_answers.specs.OnFiles.{AreChecked, Asked, AsksToCheck, EndsCheck, EndsTask, EndsWell, HasDone, HasDoneTask, HasRefused, HasShort, HasStopped, IsAskedReport, IsComplete, IsManifest, IsPublishedBy, IsShortOfMemory, IsTargetOf, MeetsTask}
 use Rattle.szg_words.specs.declared.command_line.CommandForm.{CommandForm}
@@ -51,15 +50,16 @@ if_ok_then (Ok a) f p = f a p
 if_ok_then (Err e) f p = p
 
 -- the ending of files that were checked, or not up to their end
-pub checked_so : (P : CheckReport → Type 0) {F : Type 0} (result : Result CheckReport CheckStop) → IfOk result P → (IsErrOf result check_stops.Device → F) → AreChecked (Checked result) P F
-checked_so P (Ok report) found failed = found
-checked_so P (Err check_stops.Device) found failed = failed refl
-checked_so P (Err check_stops.Memory) found failed = tt
+pub checked_so : (P Q : CheckReport → Type 0) {F : Type 0} (result : Result (Option CheckReport) AllocError) → ((report : CheckReport) → P report → Q report) → IfOk result (λ report. IfSome report P) → IfOk result (λ report. IfNone report F) →
+    AreChecked (Checked result) Q F
+checked_so P Q (Ok (Some report)) is found failed = is report found
+checked_so P Q (Ok None) is found failed = failed
+checked_so P Q (Err error) is found failed = tt
 
 -- the same, where no manifest was asked for
-pub checked_without : (P : CheckReport → Type 0) (T : Option (List ℕ) → Type 0) {F : Type 0} (result : Result CheckReport CheckStop) → IfOk result P → T None → (IsErrOf result check_stops.Device → F) →
+pub checked_without : (P : CheckReport → Type 0) (T : Option (List ℕ) → Type 0) {F : Type 0} (result : Result (Option CheckReport) AllocError) → IfOk result (λ report. IfSome report P) → T None → IfOk result (λ report. IfNone report F) →
     AreChecked (Checked result) (λ report. P report × T None) F
-checked_without P T result found none failed = checked_so _ result (if_ok_then result (λ report p. (p, none)) found) failed
+checked_without P T result found none failed = checked_so P (λ report. P report × T None) result (λ report p. (p, none)) found failed
 
 -- the manifest that was written, or could not be
 pub manifest_is : (T : Option (List ℕ) → Type 0) (report : CheckReport) (written : Result Published FileFault) → IfOk written (λ published. published_text published ≡ report.manifest.items) → IfOk written (λ published. T (Some (published_target published))) →
@@ -70,9 +70,9 @@ manifest_is T report (Err fault) text target = tt
 -- what follows from the facts of a check's ending holds where they do
 pub EndsCheck-then : {P Q : CheckReport → Type 0} {T U : Option (List ℕ) → Type 0} {F G M N : Type 0} (ending : Ending) → ((report : CheckReport) → P report → Q report) → ((given : Option (List ℕ)) → T given → U given) → (F → G) → (M → N) →
     EndsCheck ending P T F M → EndsCheck ending Q U G N
-EndsCheck-then (Checked (Ok report)) has is failed unread h = (has report h.0, is None h.1)
-EndsCheck-then (Checked (Err check_stops.Device)) has is failed unread h = failed h
-EndsCheck-then (Checked (Err check_stops.Memory)) has is failed unread h = h
+EndsCheck-then (Checked (Ok (Some report))) has is failed unread h = (has report h.0, is None h.1)
+EndsCheck-then (Checked (Ok None)) has is failed unread h = failed h
+EndsCheck-then (Checked (Err error)) has is failed unread h = h
 EndsCheck-then (Listed report target (Ok published)) has is failed unread h = (has report h.0, (is _ h.1.0, h.1.1))
 EndsCheck-then (Listed report target (Err fault)) has is failed unread h = (has report h.0, h.1)
 EndsCheck-then (Failed failure) has is failed unread h = unread h

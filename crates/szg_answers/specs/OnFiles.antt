@@ -1,6 +1,6 @@
 -- What a command on files by their paths does.
 use Rattle.std.specs.Borrow.{Bor}
-use Rattle.std.specs.Prelude.{◌≡◌, ◌⊎◌, ℕ, List, [], ◌∷◌, map, Option, Some, None, IsSome, option_map, Result, Ok, Err}
+use Rattle.std.specs.Prelude.{◌≡◌, ◌⊎◌, ℕ, List, [], ◌∷◌, map, Option, Some, None, IsSome, is_some, option_map, Result, Ok, Err}
 use Rattle.szg_io.specs.declared.device.Input as input
 use Rattle.szg_io.specs.declared.device.Output as output
 use Rattle.szg_io.specs.Device.{HasFailed}
@@ -14,11 +14,10 @@ use Rattle.szg_files.specs.declared.draft.Published.{Published}
 use Rattle.szg_files.specs.declared.file_system.FileFault.{FileFault}
 use Rattle.szg_sums.specs.declared.lists.Sums.{Sums}
 use Rattle.szg_archive.specs.Requested.{files_to_check}
-use Rattle.szg_archive.specs.Verdicts.{IsFoundReport, options_with, plain_options}
+use Rattle.szg_archive.specs.Verdicts.{IsFoundReport, plain_options}
 use Rattle.szg_archive.specs.declared.log.Log.{Log}
 use Rattle.szg_archive.specs.declared.many.CheckReport.{CheckReport}
 use Rattle.szg_archive.specs.declared.options.CheckOptions.{CheckOptions}
-use Rattle.szg_archive.specs.declared.stop.CheckStop.TheVariants as check_stops
 use Rattle.szg_answers.specs.Answers.{IsAnswer}
 use Rattle.szg_answers.specs.Builds.{choice_of, IsBuiltIn, IsTextOf}
 use Rattle.szg_words.specs.Chosen.{AsksFor, AsksForJob, AsksForNoJob, AsksForNone}
@@ -114,9 +113,9 @@ EndsTask (endings.Words outcome) Done Refused Failed Short = ⊥
 
 -- Files were checked: all of them, or the writer failed, or memory was refused.
 abbrev pub AreChecked : Ending → (CheckReport → Type 0) → Type 0 → Type 0
-AreChecked (endings.Checked (Ok report)) Report Failed = Report report
-AreChecked (endings.Checked (Err check_stops.Device)) Report Failed = Failed
-AreChecked (endings.Checked (Err check_stops.Memory)) Report Failed = Unit {0}
+AreChecked (endings.Checked (Ok (Some report))) Report Failed = Report report
+AreChecked (endings.Checked (Ok None)) Report Failed = Failed
+AreChecked (endings.Checked (Err error)) Report Failed = Unit {0}
 AreChecked ending Report Failed = ⊥
 
 -- The manifest of what was checked is in the file that was asked for, or that could not be written.
@@ -184,9 +183,10 @@ IsShortOfMemory content failures filing reading writing task None system system'
 
 -- ---- what the words ask for
 
--- A check that is asked for: its options, the files of lists of sums and of logs, the file for a manifest, and the paths.
+-- A check that is asked for: its options, by the sums and the records that are read; the files of lists of sums and of logs, the
+-- file for a manifest, and the paths.
 pub record Asked : Type 0 where
-  pub options : CheckOptions
+  pub options : Option (Bor Sums) → Option (Bor Log) → CheckOptions
   pub lists : List (Bor (List ℕ))
   pub logs : List (Bor (List ℕ))
   pub target : Option (List ℕ)
@@ -194,7 +194,16 @@ pub record Asked : Type 0 where
 
 abbrev pub asked_of : CheckJob → Asked
 asked_of job = record {
-  options = job.options;
+  options = λ sums log. record {
+    naming = job.naming;
+    allow_trailing = job.allow_trailing;
+    format = job.format;
+    quiet = job.quiet;
+    sums = sums;
+    shard = job.shard;
+    log = log;
+    has_manifest = is_some job.manifest;
+  };
   lists = job.lists.items;
   logs = job.logs.items;
   target = option_map (λ path. path.now) job.manifest;
@@ -203,7 +212,7 @@ asked_of job = record {
 
 -- the check of these files without options
 abbrev pub plain_check : List (List ℕ) → Asked
-plain_check paths = record { options = plain_options; lists = []; logs = []; target = None; paths = paths }
+plain_check paths = record { options = λ sums log. plain_options; lists = []; logs = []; target = None; paths = paths }
 
 -- The words ask for this check.
 abbrev pub AsksToCheck : (CommandForm → List (List ℕ) → ArgMatches → Type 0) → List (List ℕ) → Asked → Type 0
@@ -217,7 +226,7 @@ IsGiven (file ∷ files) given = IsSome given
 
 -- The options that are asked for, with the sums of the lists and the records of the logs.
 abbrev pub IsComplete : Asked → CheckOptions → Type 0
-IsComplete asked complete = (sums : Option (Bor Sums)) × (log : Option (Bor Log)) × IsGiven asked.lists sums × IsGiven asked.logs log × (complete ≡ options_with asked.options sums log)
+IsComplete asked complete = (sums : Option (Bor Sums)) × (log : Option (Bor Log)) × IsGiven asked.lists sums × IsGiven asked.logs log × (complete ≡ asked.options sums log)
 
 -- The files were checked as it is asked for.
 abbrev pub IsAskedReport : {S F W : Type 0} → (S → List ℕ → Option (List ℕ)) → (S → ℕ) → input.Ghosts F → output.Ghosts W → Asked → S → S → W → W → CheckReport → Type 0

@@ -1,17 +1,17 @@
 -- The line of a refusal.
-use Rattle.std.specs.Prelude.{ℕ, List, [], ◌∷◌, ◌++◌, codes, decimal}
+use Rattle.std.specs.Prelude.{ℕ, List, [], ◌∷◌, ◌++◌, Some, None, codes, decimal}
 use Rattle.szg_values.specs.declared.PlacementFault.{PlacementFault}
 use Rattle.szg_values.specs.declared.PlacementFault.TheVariants as placements
 use Rattle.szg_file.specs.declared.fault.MapFault.{MapFault}
 use Rattle.szg_file.specs.declared.fault.MapFault.TheVariants as maps
-use Rattle.szg_named.specs.Texts.{name_word, reason_word}
+use Rattle.szg_named.specs.Texts.{name_word}
+use Rattle.szg_archive.specs.ReasonWords.{reason_word}
 use Rattle.szg_place.specs.declared.PlaceFault.{PlaceFault}
 use Rattle.szg_place.specs.declared.PlaceFault.TheVariants as places
 use Rattle.szg_build.specs.declared.BuildFault.{BuildFault}
 use Rattle.szg_build.specs.declared.BuildFault.TheVariants as builds
 use Rattle.szg_build.specs.declared.dump.DumpFault.{DumpFault}
 use Rattle.szg_build.specs.declared.dump.DumpFault.TheVariants as dumps
-use Rattle.szg_words.specs.declared.men.MenFault.TheVariants as men
 use Rattle.szg_answers.specs.declared.refusal.Refusal.{Refusal}
 use Rattle.szg_answers.specs.declared.refusal.Refusal.TheVariants as why
 
@@ -53,7 +53,7 @@ map_word maps.OutsideMap = codes "OutsideMap"
 -- why something is refused, in a word
 abbrev pub refusal_word : Refusal → List ℕ
 refusal_word (why.Name fault) = name_word fault
-refusal_word (why.Men (men.Placement fault)) = placement_word fault
+refusal_word (why.Men (Some fault)) = placement_word fault
 refusal_word (why.At place reason) = reason_word reason
 refusal_word (why.Line line fault) = dump_word fault
 refusal_word (why.Build fault) = build_word fault
@@ -71,8 +71,8 @@ numbered_line what number word = codes "refused " ++ (what ++ (32 ∷ [] ++ (dec
 
 abbrev pub refusal_line : Refusal → List ℕ
 refusal_line (why.Name fault) = worded_line (codes "name") (name_word fault)
-refusal_line (why.Men men.Word) = codes "refused man\n"
-refusal_line (why.Men (men.Placement fault)) = worded_line (codes "placement") (placement_word fault)
+refusal_line (why.Men None) = codes "refused man\n"
+refusal_line (why.Men (Some fault)) = worded_line (codes "placement") (placement_word fault)
 refusal_line (why.At place reason) = numbered_line (codes "at") place (reason_word reason)
 refusal_line (why.Line line fault) = numbered_line (codes "line") line (dump_word fault)
 refusal_line (why.Build fault) = worded_line (codes "build") (build_word fault)

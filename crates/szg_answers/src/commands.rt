@@ -3,12 +3,12 @@ ghost use Rattle.szg_io.specs.Device.{HasFailed};
 ghost use Rattle.szg_io.specs.Moved.{Gives, Takes};
 ghost use Rattle.szg_file.specs.Held.{file_bytes};
 ghost use Rattle.clap.specs.Values.{kind_of as kind_of_error};
-ghost use Rattle.szg_answers.specs.Answers.{IsAnswer, IsDumpText};
+ghost use Rattle.szg_answers.specs.Answers.{IsAnswer};
 ghost use Rattle.szg_words.specs.Chosen.{AsksFor, AsksForNone, IsFoundByClap, IsRefusedByClap};
 ghost use Rattle.szg_answers.specs.Outcome.{OnDone, OnRefused, OnWords};
 ghost use Rattle.szg_answers.specs.RefusalLines.{refusal_line};
 ghost use Rattle.szg_answers.specs.Refusals.{IsRefused};
-ghost use Rattle.szg_answers.specs.Requests.{IsAnswered, IsBegun, IsBegunBy, IsCarriedOut, IsListed, IsRefusedWith, IsTableOf, IsUnread, IsRefusedOf, Meets, unplaced_refusal};
+ghost use Rattle.szg_answers.specs.Requests.{IsBegunBy, IsCarriedOut, IsListed, IsRefusedWith, IsTableOf, IsUnread, Meets, unplaced_refusal};
 ghost use Rattle.szg_answers.specs.declared.refusal.Refusal.{Refusal};
 ghost use Rattle.szg_words.specs.declared.request.Task.{Task};
 
@@ -23,11 +23,11 @@ use crate::saying::{say, say_line};
 use clap::Error;
 use clap::error::ErrorKind;
 use std::alloc::Global;
-use szg_build::{DumpWriteFault, Unwatched, Watcher, dump_table};
+use szg_build::{StreamFault, Unwatched, Watcher, dump_table};
 use szg_file::{ReadFault, Table, file_len, read, write};
 use szg_io::{Input, Output};
 use szg_values::Material;
-use szg_words::{Action, Clap, DumpForm, Finder, Request, Task, parse};
+use szg_words::{Action, Clap, Finder, Request, Task, parse};
 
 /// Runs a command line: `words` begins with the program's name. The table's file, for `build` the dump, is read from
 /// `reader`, the answer is written to `writer`. Which word goes to which argument, `clap` decides.
@@ -66,17 +66,11 @@ pub fn run_by<F: Finder, R: Input, W: Output, V: Watcher>(
     writer: &mut W,
     watcher: &mut V,
 ) -> Outcome
-    // The request that the words ask for was answered: just the file of an accepted table was read, and just its answer
-    // was written. Or a table was built: just the text of a dump was read, and just the file of an accepted table that is
-    // built of it was written.
     ensures stated { OnDone result ((task : Task) × AsksFor F.finds (map (λ word. word.now) words.now) task × IsCarriedOut R.Input W.Output task reader.old reader.new writer.old writer.new) }
-    // It was refused: it meets a refusal, and just this refusal's line was written.
     ensures refused { OnRefused result ((task : Task) × AsksFor F.finds (map (λ word. word.now) words.now) task × IsRefusedWith R.Input W.Output task reader.old reader.new writer.old writer.new) }
     ensures words { OnWords result ((reader.new ≡ reader.old) × (writer.new ≡ writer.old) × AsksForNone F.finds F.refuses (map (λ word. word.now) words.now)) }
-    // Whatever the outcome: bytes were taken with at most 1,001 calls for each of them and for one more.
     ensures calls { (bytes : List ℕ) × Takes R.Input reader.old reader.new bytes 1 }
     ensures device { (result ≡ Outcome.Device) → (HasFailed (R.failures reader.old) (R.failures reader.new) (R.interrupted reader.new) × (writer.new ≡ writer.old)) ⊎ HasFailed (W.failures writer.old) (W.failures writer.new) (W.interrupted writer.new) }
-    // Nothing was written, or, by `values` and `dump`, a beginning of the answer.
     ensures memory { (result ≡ Outcome.Memory) → (writer.new ≡ writer.old) ⊎ ((task : Task) × AsksFor F.finds (map (λ word. word.now) words.now) task × IsBegunBy R.Input W.Output task reader.old reader.new writer.old writer.new) }
 {
     let task = match parse(alloc, finder, words) {
@@ -137,28 +131,12 @@ pub(crate) fn carry_out<R: Input, W: Output, V: Watcher>(
     ensures memory { IsErrOf result Stop.Memory → (writer.new ≡ writer.old) ⊎ IsBegunBy R.Input W.Output task.now reader.old reader.new writer.old writer.new }
 {
     match task {
-        Task::OnTable(request) => answer(alloc, request, reader, writer),
+        Task::OnTable(request) => {
+            let table = read_requested(alloc, request, reader)?;
+            answer_request(alloc, &table, request, writer)
+        }
         Task::Build(plan) => build_and_write(alloc, choice_of(*plan), reader, writer, watcher),
     }
-}
-
-/// Reads the table and writes the request's answer, or returns why not; where it is refused nothing was written.
-fn answer<R: Input, W: Output>(
-    alloc: Global,
-    request: &Request,
-    reader: &mut R,
-    writer: &mut W,
-) -> Result<(), Stop>
-    // Just the file of an accepted table was read, and just its answer was written.
-    ensures stated { OnOk result (IsAnswered R.Input W.Output request.now reader.old reader.new writer.old writer.new) }
-    ensures calls { (bytes : List ℕ) × Takes R.Input reader.old reader.new bytes 1 }
-    ensures device { IsErrOf result Stop.Device → (HasFailed (R.failures reader.old) (R.failures reader.new) (R.interrupted reader.new) × (writer.new ≡ writer.old)) ⊎ HasFailed (W.failures writer.old) (W.failures writer.new) (W.interrupted writer.new) }
-    ensures refused { (refusal : Refusal) → IsErrOf result (Stop.Refused refusal) → (writer.new ≡ writer.old)
-        × (IsUnread R.Input request.now reader.old reader.new refusal ⊎ IsRefusedOf R.Input request.now reader.old reader.new refusal) }
-    ensures memory { IsErrOf result Stop.Memory → (writer.new ≡ writer.old) ⊎ IsBegun R.Input W.Output request.now reader.old reader.new writer.old writer.new }
-{
-    let table = read_requested(alloc, request, reader)?;
-    answer_request(alloc, &table, request, writer)
 }
 
 /// Reads the table of the request's name and kind.
@@ -214,11 +192,14 @@ fn answer_request<W: Output>(
             get_answer(alloc, table, request, *index, true),
         ),
         Action::Values => write_all_values(alloc, table, request, writer),
-        Action::Copy => match write(table, writer) {
+        Action::Copy => write(table, writer).map_err(|_| Stop::Device),
+        Action::Dump(form) => match dump_table(alloc, table, form.number(), writer) {
             Ok(()) => Ok(()),
-            Err(_) => Err(Stop::Device),
+            Err(StreamFault::Output) => Err(Stop::Device),
+            Err(StreamFault::Memory) => Err(Stop::Memory),
+            Err(StreamFault::Changed) => unreachable!(),
+            Err(StreamFault::Input) => unreachable!(),
         },
-        Action::Dump(form) => write_dump_text(alloc, table, *form, writer),
         Action::Index(placement) => say_line(writer, index_line(alloc, table.index(), placement)),
         Action::Probe(placement, class) => say_line(
             writer,
@@ -229,25 +210,5 @@ fn answer_request<W: Output>(
             placement_answer(alloc, table, request, *index),
         ),
         Action::Unplaced(fault) => Err(Stop::Refused(Refusal::Men(*fault))),
-    }
-}
-
-/// Writes the table's dump, a block's values at a time.
-fn write_dump_text<W: Output>(
-    alloc: Global,
-    table: &Table,
-    form: DumpForm,
-    writer: &mut W,
-) -> Result<(), Stop>
-    ensures stated { OnOk result ((text : List ℕ) × IsDumpText form table.now.contents text × Gives W.Output writer.old writer.new text 0) }
-    ensures device { IsErrOf result Stop.Device → HasFailed (W.failures writer.old) (W.failures writer.new) (W.interrupted writer.new) }
-    ensures only { (refusal : Refusal) → IsErrOf result (Stop.Refused refusal) → ⊥ }
-    // a beginning of the answer was written
-    ensures memory { IsErrOf result Stop.Memory → (text : List ℕ) × (rest : List ℕ) × IsDumpText form table.now.contents (text ++ rest) × Gives W.Output writer.old writer.new text 0 }
-{
-    match dump_table(alloc, table, form.number(), writer) {
-        Ok(()) => Ok(()),
-        Err(DumpWriteFault::Output) => Err(Stop::Device),
-        Err(DumpWriteFault::Memory) => Err(Stop::Memory),
     }
 }

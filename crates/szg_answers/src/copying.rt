@@ -13,11 +13,11 @@ use std::io::ErrorKind;
 use std::path::Path;
 use std::rt::Files;
 use szg_archive::{
-    CheckCounts, CheckOptions, CheckReport, CheckStop, Due, FileVerdict, check_path, due_of,
-    read_lists, summary_line, verdict_line,
+    CheckCounts, CheckOptions, CheckReport, Due, FileVerdict, check_path, due_of, read_lists,
+    summary_line, verdict_line,
 };
 use szg_build::StreamFault;
-use szg_files::{Draft, FileFault, FileSystem, Lock, Published, Reasons, is_folder};
+use szg_files::{Draft, FileFault, FileSystem, Lock, Published, Reasons};
 use szg_io::{Input, Output, give_whole, take_whole};
 use szg_sums::{Hasher, Sha256, Sums, sha256_of};
 use szg_words::{CopyWords, same_name_error};
@@ -71,19 +71,17 @@ where
     ensures digest { IfOk result (λ copy. sha256 (published_text copy) ≡ digest.now) }
     ensures target { IfOk result (λ copy. published_target copy ≡ target.now) }
 {
-    let (like, mut file) = match opened(system, files, path) {
-        Ok(opened) => opened,
-        Err(fault) => return Err(FileFailure { path, fault }),
-    };
-    let mut draft = match Draft::create(alloc, files, target) {
-        Ok(draft) => draft,
-        Err(fault) => {
-            return Err(FileFailure {
-                path: target,
-                fault,
-            });
-        }
-    };
+    let like = files.metadata(path).map_err(|error| FileFailure {
+        path,
+        fault: error.into(),
+    })?;
+    let mut file = system
+        .open(path)
+        .map_err(|fault| FileFailure { path, fault })?;
+    let mut draft = Draft::create(alloc, files, target).map_err(|fault| FileFailure {
+        path: target,
+        fault,
+    })?;
     let (path, fault) = match copy_bytes(&mut file, &mut draft.file) {
         Ok(found) if found == *digest => match published_like(draft, &like) {
             Ok(copy) => return Ok(copy),
@@ -100,16 +98,6 @@ where
         }
     };
     Err(FileFailure { path, fault })
-}
-
-/// Opens the file at a path, after its mode and time.
-fn opened<S: FileSystem, R: Files>(
-    system: &mut S,
-    files: &R,
-    path: &str,
-) -> Result<(Metadata, S::File), FileFault> {
-    let like = files.metadata(path)?;
-    Ok((like, system.open(path)?))
 }
 
 /// Makes a draft like another file, flushes it to the disk, and renames it over its target.
@@ -165,28 +153,9 @@ where
     }
 }
 
-/// Returns the line of a file that was checked, and copied if it passed, and its verdict.
-fn copy_to<S: FileSystem, R: Files>(
-    alloc: Global,
-    system: &mut S,
-    files: &R,
-    path: &str,
-    due: Due,
-    folder: &str,
-) -> Result<(Vec<u8>, FileVerdict), AllocError>
-where
-    R::File: Lock,
-{
-    let name = Path::new(path).file_name().unwrap_or("");
-    let target = format!(in alloc; "{folder}/{name}")?;
-    let copied = copy_file(alloc, system, files, path, due, target.as_str())?;
-    let line = verdict_line(alloc, copied.path, &copied.verdict, false)?;
-    Ok((line, copied.verdict))
-}
-
 /// Copies files into a folder; writes a line of each, and a summary.
 ///
-/// Errors: `Device` if the writer failed, `Memory` if an allocation was refused.
+/// None if the writer failed. Errors: an allocation was refused.
 fn copy_files<S: FileSystem, R: Files, W: Output>(
     alloc: Global,
     system: &mut S,
@@ -195,7 +164,7 @@ fn copy_files<S: FileSystem, R: Files, W: Output>(
     paths: &[&str],
     folder: &str,
     writer: &mut W,
-) -> Result<CheckReport, CheckStop>
+) -> Result<Option<CheckReport>, AllocError>
 where
     R::File: Lock,
 {
@@ -208,20 +177,23 @@ where
     };
     'paths: for path in paths {
         let due = due_of(alloc, sums, path)?;
-        let (line, verdict) = copy_to(alloc, system, files, path, due, folder)?;
+        let name = Path::new(path).file_name().unwrap_or("");
+        let target = format!(in alloc; "{folder}/{name}")?;
+        let copied = copy_file(alloc, system, files, path, due, target.as_str())?;
+        let line = verdict_line(alloc, copied.path, &copied.verdict, false)?;
         if give_whole(writer, &line).is_err() {
-            return Err(CheckStop::Device);
+            return Ok(None);
         }
-        counts = counts.with(&verdict, false);
+        counts = counts.with(&copied.verdict, false);
     }
     let end = summary_line(alloc, &counts)?;
     if give_whole(writer, end.as_bytes()).is_err() {
-        return Err(CheckStop::Device);
+        return Ok(None);
     }
-    Ok(CheckReport {
+    Ok(Some(CheckReport {
         counts,
         manifest: Vec::new(alloc),
-    })
+    }))
 }
 
 /// Copies what a command line asks for: each table that passes its check, and the comparison with lists of sums if there are
@@ -238,13 +210,10 @@ where
 {
     let folder: &'a str = asked.folder;
     let paths = asked.files.as_slice();
-    match is_folder(files, folder) {
-        Ok(true) => {}
-        Ok(false) => return failed_ending(
-            folder,
-            FileFault::System(ErrorKind::NotADirectory.into()),
-        ),
-        Err(fault) => return failed_ending(folder, fault),
+    match files.metadata(folder) {
+        Ok(found) if found.is_dir() => {}
+        Ok(_) => return failed_ending(folder, FileFault::System(ErrorKind::NotADirectory.into())),
+        Err(error) => return failed_ending(folder, error.into()),
     }
     match same_name_error(alloc, paths) {
         Ok(None) => {}

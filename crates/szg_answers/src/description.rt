@@ -1,12 +1,11 @@
-ghost use Rattle.std.specs.Prelude.{◌≡◌, ◌+◌, ℕ, List, ◌++◌, IfOk, map, length, string_bytes};
-ghost use Rattle.szg_file.specs.Held.{file_bytes, map_of};
-ghost use Rattle.szg_file.specs.Values.{lists_of};
-ghost use Rattle.szg_answers.specs.Answers.{front_lines, kind_word};
+ghost use Rattle.std.specs.Prelude.{◌≡◌, ◌+◌, ℕ, List, ◌++◌, IfOk, length, string_bytes};
+ghost use Rattle.szg_file.specs.Held.{file_bytes};
+ghost use Rattle.szg_answers.specs.Answers.{front_lines};
 
-use crate::placements::{PARTS, part_letter};
+use crate::placements::part_letter;
 use std::alloc::{AllocError, Global};
 use szg_block::Sub;
-use szg_file::{FrontTable, Map, PartBytes, Slot, Table, TableIndex, constant_value, file_len};
+use szg_file::{FrontTable, Map, Slot, Table, TableIndex, constant_value, file_len};
 use szg_values::{Kind, Material};
 
 /// What is described of a table after its name, its kind and its file's length.
@@ -24,11 +23,18 @@ struct Described<'a> {
 pub(crate) fn table_description(alloc: Global, table: &Table) -> Result<String, AllocError>
     ensures { IfOk result (λ text. (rest : List ℕ) × (string_bytes text ≡ front_lines table.now.contents.material table.now.contents.kind (length (file_bytes table.now)) ++ rest)) }
 {
+    let index = table.index();
+    let mut subs = Vec::new(alloc);
+    'slots: for slot in index.slots() {
+        if let Some(sub) = table.sub(slot.part, slot.side) {
+            subs.push(sub)?;
+        }
+    }
     let front = front_lines(alloc, table.material(), table.kind(), file_len(table))?;
     let described = Described {
-        index: table.index(),
+        index,
         byte4: table.byte4(),
-        subs: subs_of_table(alloc, table)?,
+        subs,
         last: table.last().as_slice(),
     };
     let rest = other_lines(alloc, &described)?;
@@ -43,37 +49,21 @@ pub(crate) fn front_description(
 ) -> Result<String, AllocError>
     ensures { IfOk result (λ text. (rest : List ℕ) × (string_bytes text ≡ front_lines table.now.index.material table.now.index.kind (table.now.ending + 16) ++ rest)) }
 {
+    let mut subs = Vec::new(alloc);
+    'subtables: for placed in table.subs() {
+        subs.push(&placed.sub)?;
+    }
     let index = table.index();
     let length = table.ending() + 16;
     let front = front_lines(alloc, index.material(), index.kind(), length)?;
     let described = Described {
         index,
         byte4: table.byte4(),
-        subs: subs_of_front(alloc, table)?,
+        subs,
         last,
     };
     let rest = other_lines(alloc, &described)?;
     format!(in alloc; "{front}{rest}")
-}
-
-/// The subtables of a table, in file order.
-fn subs_of_table<'a>(alloc: Global, table: &'a Table) -> Result<Vec<&'a Sub>, AllocError> {
-    let mut subs = Vec::new(alloc);
-    'slots: for slot in table.index().slots() {
-        if let Some(sub) = table.sub(slot.part, slot.side) {
-            subs.push(sub)?;
-        }
-    }
-    Ok(subs)
-}
-
-/// The subtables of a table that was opened by its front, in file order.
-fn subs_of_front<'a>(alloc: Global, table: &'a FrontTable) -> Result<Vec<&'a Sub>, AllocError> {
-    let mut subs = Vec::new(alloc);
-    'subtables: for placed in table.subs() {
-        subs.push(&placed.sub)?;
-    }
-    Ok(subs)
 }
 
 /// A table's name, its kind and its file's length, a line each.
@@ -87,38 +77,26 @@ fn front_lines(
 {
     let name = material.name();
     let name = name.as_str();
-    let kind = kind_word(kind);
-    format!(in alloc; "name {name}\nkind {kind}\nbytes {length}\n")
-}
-
-/// A kind's word.
-fn kind_word(kind: Kind) -> &'static str
-    ensures { result.now ≡ kind_word kind }
-{
-    match kind {
+    let kind = match kind {
         Kind::Wdl => "wdl",
         Kind::Dtz => "dtz",
-    }
+    };
+    format!(in alloc; "name {name}\nkind {kind}\nbytes {length}\n")
 }
 
 /// The lines after the file's length.
 fn other_lines(alloc: Global, table: &Described) -> Result<String, AllocError> {
     let mut text = String::new(alloc);
     writeln!(text, "flags {}", table.byte4)?;
-    add_parts(alloc, table.index.parts(), &mut text)?;
-    add_subtables(table, &mut text)?;
-    writeln!(text, "end {}", hex::encode(alloc, table.last)?)?;
-    Ok(text)
-}
-
-/// A line for each part.
-fn add_parts(alloc: Global, parts: &[PartBytes], text: &mut String) -> Result<(), AllocError> {
-    'parts: for (part, letter) in parts.iter().zip(PARTS.iter()) {
+    let letters = ["a", "b", "c", "d"];
+    'parts: for (part, letter) in table.index.parts().iter().zip(letters.iter()) {
         let order = hex::encode(alloc, part.order.as_slice())?;
         let men = hex::encode(alloc, part.men.as_slice())?;
         writeln!(text, "part {letter} order {order} men {men}")?;
     }
-    Ok(())
+    add_subtables(table, &mut text)?;
+    writeln!(text, "end {}", hex::encode(alloc, table.last)?)?;
+    Ok(text)
 }
 
 /// A line for each subtable, and one for each map after its part's first.
@@ -144,24 +122,18 @@ fn add_subtable(kind: Kind, slot: &Slot, sub: &Sub, text: &mut String) -> Result
         }
         Sub::Pairs {
             flags,
-            block_bits,
-            span_bits,
+            block_bits: block,
+            span_bits: span,
             extra,
             blocks,
             code,
             dict,
             ..
         } => {
-            let min = code.min();
-            let max = code.max();
-            let symbols = dict.symbols();
-            write!(
-                text,
-                "sub {letter} {side} flags {flags} size {size} block {block_bits} span {span_bits} "
-            )?;
+            let (min, max, symbols) = (code.min(), code.max(), dict.symbols());
             writeln!(
                 text,
-                "extra {extra} blocks {blocks} min {min} max {max} symbols {symbols}"
+                "sub {letter} {side} flags {flags} size {size} block {block} span {span} extra {extra} blocks {blocks} min {min} max {max} symbols {symbols}"
             )
         }
     }
@@ -172,25 +144,10 @@ fn add_map(maps: &[Option<Map>], part: u8, text: &mut String) -> Result<(), Allo
     let Some(Some(lists)) = maps.get(part as usize) else {
         return Ok(());
     };
-    let [wins, losses, cursed, blessed] = counts_of(lists);
+    let [wins, losses, cursed, blessed] = match lists {
+        Map::Bytes([a, b, c, d]) => [a.len(), b.len(), c.len(), d.len()],
+        Map::Wide([a, b, c, d]) => [a.len(), b.len(), c.len(), d.len()],
+    };
     let letter = part_letter(part);
     writeln!(text, "map {letter} {wins} {losses} {cursed} {blessed}")
-}
-
-/// How many items each list of a map has.
-fn counts_of(lists: &Map) -> [usize; 4]
-    ensures { result ≡ map length (lists_of (map_of lists.now)) }
-{
-    match lists {
-        Map::Bytes(lists) => lengths_of(lists),
-        Map::Wide(lists) => lengths_of(lists),
-    }
-}
-
-/// How many items each of four lists has.
-fn lengths_of<T>(lists: &[Vec<T>; 4]) -> [usize; 4]
-    ensures { result ≡ map length (map (λ list. list.items) lists.now) }
-{
-    let [a, b, c, d] = lists;
-    [a.len(), b.len(), c.len(), d.len()]
 }

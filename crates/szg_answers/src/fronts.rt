@@ -1,10 +1,8 @@
 //! Look-ups in a file by its front: the file is read and checked up to its blocks, and then at most one block, or the last
 //! bytes.
 
-ghost use Rattle.std.specs.Prelude.{◌≡◌, ℕ, ◌≤◌, ◌<◌, [], length, Ok, IfOk, IfErr, IsErrOf, IsSome, IsSomeAnd, Some, option_map, string_bytes, false, true};
+ghost use Rattle.std.specs.Prelude.{◌≡◌, ℕ, ◌≤◌, ◌<◌, [], Ok, IfOk, IfErr, IsErrOf, IsSome, IsSomeAnd, Some, option_map, string_bytes, false, true};
 ghost use Rattle.szg_file.specs.Index.{slot_in};
-ghost use Rattle.szg_place.specs.Probes.{as_number};
-ghost use Rattle.szg_words.specs.Words.{number_of_class};
 ghost use Rattle.szg_answers.specs.Fronts.{AnswersIn, IsBadBlockAt, IsBlockRead, IsDecodedAt, IsFetchedIn, IsFrontTaken, IsLookUpAnswer, IsLookUpRefused, IsMapRefusal, IsMeaningLine, IsUnfetched, IsUnhad, IsUnopened, MeetsIn};
 ghost use Rattle.szg_words.specs.Requested.{IsLookUp};
 ghost use Rattle.szg_answers.specs.Refusals.{index_refusal};
@@ -16,7 +14,7 @@ use crate::placements::{class_line, index_line};
 use crate::refusal::{Refusal, Stop};
 use std::alloc::Global;
 use std::io::ErrorKind;
-use szg_file::{ByteRange, FetchFault, FrontTable, MapFault, ReadFault, TableIndex, open_front};
+use szg_file::{ByteRange, FetchFault, FrontTable, ReadFault, TableIndex, open_front};
 use szg_files::{FileFault, FileSystem, Reasons, read_range};
 use szg_io::Input;
 use szg_place::{Spot, class_of, locate};
@@ -133,15 +131,6 @@ fn requested_spot(front: &FrontTable, part: u8, side: u8, index: u64) -> Result<
     }
 }
 
-/// The number of a DTZ value of a part in a class.
-fn number_in(index: &TableIndex, part: u8, class: AskedClass, value: u16) -> Result<u32, MapFault>
-    requires kind { index.now.kind ≡ Kind.Dtz }
-    requires part { IsSome (slot_in index.now part 0) }
-    ensures { result ≡ as_number index.now part (number_of_class class) value }
-{
-    index.map_value(part, class.number(), value)
-}
-
 /// The line of what a value means: in a WDL table its class, in a DTZ table its number in a class.
 fn meaning_line(
     alloc: Global,
@@ -156,7 +145,7 @@ fn meaning_line(
 {
     match index.kind() {
         Kind::Wdl => Ok(class_line(alloc, class_of(value))?),
-        Kind::Dtz => match number_in(index, part, class, value) {
+        Kind::Dtz => match index.map_value(part, class.number(), value) {
             Ok(number) => Ok(format!(in alloc; "{number}\n")?),
             Err(fault) => Err(Stop::Refused(Refusal::Map(fault))),
         },

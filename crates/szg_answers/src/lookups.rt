@@ -1,18 +1,17 @@
 //! The commands that look values up.
 
-ghost use Rattle.std.specs.Prelude.{◌≡◌, ◌⊎◌, ℕ, ◌<◌, List, ◌++◌, flat_map, Some, None, IsSome, IfSome, IfErr, OnOk, IfOk, Err, IsErrOf, replicate, string_bytes, if◌then◌else◌};
+ghost use Rattle.std.specs.Prelude.{◌≡◌, ◌⊎◌, ℕ, ◌<◌, List, ◌++◌, flat_map, Some, None, IsSome, IfSome, IfErr, OnOk, IfOk, Err, IsErrOf, string_bytes, if◌then◌else◌};
 ghost use Rattle.szg_io.specs.Device.{HasFailed};
 ghost use Rattle.szg_io.specs.Moved.{Gives};
 ghost use Rattle.szg_file.specs.Values.{subtable_at};
-ghost use Rattle.szg_answers.specs.Answers.{IsAnswer, counted_line, number_line};
+ghost use Rattle.szg_answers.specs.Answers.{IsAnswer, number_line};
 ghost use Rattle.szg_answers.specs.Refusals.{IsRefused, index_refusal, size_at};
 ghost use Rattle.szg_answers.specs.declared.refusal.Refusal.{Refusal};
 
 use crate::refusal::{Refusal, Stop};
 use crate::saying::say;
 use crate::streaming::{add_lines, add_same};
-use std::alloc::{AllocError, Global};
-use szg_block::Steps;
+use std::alloc::Global;
 use szg_build::{BlockValues, StoredValues, stored_values};
 use szg_file::Table;
 use szg_io::Output;
@@ -50,23 +49,13 @@ pub(crate) fn get_answer(
     check_index(table, request, index)?;
     if has_steps {
         let (value, steps) = table.get_counted(request.part, request.side, index);
-        return Ok(counted_line(alloc, value, steps)?);
+        return Ok(format!(in alloc;
+            "{value} moves {} words {} descents {} fetches {}\n",
+            steps.moves, steps.words, steps.descents, steps.fetches
+        )?);
     }
     let value = table.get(request.part, request.side, index);
     Ok(format!(in alloc; "{value}\n")?)
-}
-
-/// A line of a value and the steps to it.
-fn counted_line(alloc: Global, value: u16, steps: Steps) -> Result<String, AllocError>
-    ensures { IfOk result (λ line. string_bytes line ≡ counted_line value steps) }
-{
-    let Steps {
-        moves,
-        words,
-        descents,
-        fetches,
-    } = steps;
-    format!(in alloc; "{value} moves {moves} words {words} descents {descents} fetches {fetches}\n")
 }
 
 /// Writes each value of a subtable on a line, a block's values at a time.
@@ -86,21 +75,13 @@ pub(crate) fn write_all_values<W: Output>(
         return Err(Stop::Refused(Refusal::Part));
     };
     match stored {
-        StoredValues::Same { value, count } => say_same(alloc, count, value, writer),
+        StoredValues::Same { value, count } => {
+            let mut text = Vec::new(alloc);
+            add_same(&mut text, value, count, writer)?;
+            say(writer, &text)
+        }
         StoredValues::Blocks(mut blocks) => say_blocks(alloc, &mut blocks, writer),
     }
-}
-
-/// Writes a value `count` times, each time on a line, in large pieces. It takes no memory for the values.
-fn say_same<W: Output>(alloc: Global, count: u64, value: u16, writer: &mut W) -> Result<(), Stop>
-    ensures given { OnOk result (Gives W.Output writer.old writer.new (flat_map number_line (replicate count value)) 0) }
-    ensures device { IsErrOf result Stop.Device → HasFailed (W.failures writer.old) (W.failures writer.new) (W.interrupted writer.new) }
-    ensures only { (refusal : Refusal) → IsErrOf result (Stop.Refused refusal) → ⊥ }
-    ensures memory { IsErrOf result Stop.Memory → (text : List ℕ) × (rest : List ℕ) × (text ++ rest ≡ flat_map number_line (replicate count value)) × Gives W.Output writer.old writer.new text 0 }
-{
-    let mut text = Vec::new(alloc);
-    add_same(&mut text, value, count, writer)?;
-    say(writer, &text)
 }
 
 /// Writes each value of blocks on a line, in large pieces. It takes memory for the values of one block.

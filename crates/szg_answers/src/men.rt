@@ -2,7 +2,7 @@
 
 ghost use Rattle.std.specs.Prelude.{◌≡◌, ◌<◌, ◌++◌, OnOk, string_bytes};
 ghost use Rattle.std.specs.List.{list_any};
-ghost use Rattle.szg_answers.specs.Men.{is_placed_man, kind_words, letter_shown, man_word, men_words, side_words};
+ghost use Rattle.szg_answers.specs.Men.{is_placed_man, kind_words, man_word, men_words, side_words};
 
 use std::alloc::AllocError;
 use szg_values::{Color, Man, NAME_ORDER, Placement, Square};
@@ -59,18 +59,11 @@ fn add_man(kind: Man, color: Color, number: u8, text: &mut String) -> Result<(),
     requires { number < 64 }
     ensures { OnOk result (string_bytes text.new ≡ string_bytes text.old ++ man_word kind color number) }
 {
-    let letter = letter_of(kind, color) as char;
+    let letter = match color {
+        Color::White => kind.letter(),
+        Color::Black => kind.letter().to_ascii_lowercase(),
+    } as char;
     let file = (b'a' + number % 8) as char;
     let rank = 1 + number / 8;
     write!(text, " {letter}{file}{rank}")
-}
-
-/// A man's letter: upper case for White, lower case for Black.
-fn letter_of(kind: Man, color: Color) -> u8
-    ensures { result ≡ letter_shown kind color }
-{
-    match color {
-        Color::White => kind.letter(),
-        Color::Black => kind.letter().to_ascii_lowercase(),
-    }
 }

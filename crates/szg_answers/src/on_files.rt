@@ -17,7 +17,7 @@ use crate::outcome::Outcome;
 use crate::refusal::{Refusal, Stop};
 use crate::saying::say;
 use crate::streaming::{device_stop, lists_values, stream_from};
-use std::alloc::Global;
+use std::alloc::{AllocError, Global};
 use std::rt::Files;
 use std::time::Clock;
 use szg_archive::{
@@ -88,10 +88,7 @@ fn published<'a, R: Files>(
     ensures target { IfOk result (λ published. published_target published ≡ draft_target draft.entry) }
     ensures refused { (refusal : Refusal) → IsErrOf result (Stop.Refused refusal) → ⊥ }
 {
-    let sealed = match draft.seal(None) {
-        Ok(sealed) => sealed,
-        Err(fault) => return Err(failed(target, fault)),
-    };
+    let sealed = draft.seal(None).map_err(|fault| failed(target, fault))?;
     if let Some((name, kind)) = named_by(target) {
         let fault = match is_table_of(alloc, files, sealed.path(), name, kind) {
             Ok(true) => None,
@@ -103,10 +100,7 @@ fn published<'a, R: Files>(
             return Err(failed(target, fault));
         }
     }
-    match sealed.publish() {
-        Ok(published) => Ok(published),
-        Err(fault) => Err(failed(target, fault)),
-    }
+    sealed.publish().map_err(|fault| failed(target, fault))
 }
 
 /// Carries a task out on the reader, or writes the values of the file at `source` while that is read. Where it is refused
@@ -256,8 +250,8 @@ pub enum LineKind {
 /// How a command line ended.
 #[derive(Drop)]
 pub enum Ending<'a> {
-    /// Files were checked, up to a fault of the output or of memory.
-    Checked(Result<CheckReport, szg_archive::CheckStop>),
+    /// Files were checked; or the output failed (None), or a growth was refused.
+    Checked(Result<Option<CheckReport>, AllocError>),
     /// Files were checked, and the list of the digests of those that passed was written, or could not be.
     Listed {
         report: CheckReport,
@@ -424,7 +418,7 @@ where
         Err(fault) => return failed_ending(target, fault),
     };
     match check_found(alloc, system, machine, options, paths, writer) {
-        Ok(report) => {
+        Ok(Some(report)) => {
             let written = list_into(draft, &report.manifest);
             Ending::Listed {
                 report,
@@ -432,9 +426,13 @@ where
                 written,
             }
         }
-        Err(stop) => {
+        Ok(None) => {
             draft.discard();
-            Ending::Checked(Err(stop))
+            Ending::Checked(Ok(None))
+        }
+        Err(error) => {
+            draft.discard();
+            Ending::Checked(Err(error))
         }
     }
 }
@@ -454,7 +452,11 @@ where
         (IsTargetOf (asked_of job.entry)) (HasFailed (W.failures writer.old) (W.failures writer.new) (W.interrupted writer.new)) (writer.new ≡ writer.old) }
 {
     let CheckJob {
-        options,
+        naming,
+        allow_trailing,
+        format,
+        quiet,
+        shard,
         lists,
         logs,
         manifest,
@@ -468,8 +470,17 @@ where
     if let Err(failure) = read_lists(alloc, machine, &logs, &mut log) {
         return unread_list(failure, LineKind::Record);
     }
-    let complete = options.with(given(&lists, &sums), given(&logs, &log));
-    check_by(alloc, system, machine, complete, manifest, &paths, writer)
+    let options = CheckOptions {
+        naming,
+        allow_trailing,
+        format,
+        quiet,
+        sums: given(&lists, &sums),
+        shard,
+        log: given(&logs, &log),
+        has_manifest: manifest.is_some(),
+    };
+    check_by(alloc, system, machine, options, manifest, &paths, writer)
 }
 
 /// Runs a command line: on the files of a system where it names these, else on the reader. Of the machine it writes files,

@@ -4,8 +4,8 @@
 ghost use Rattle.std.specs.Prelude.{◌≡◌, Some, IfOk, IsErrOf, IsNone, string_bytes};
 ghost use Rattle.szg_place.specs.Spots.{place_fault, spot_of};
 ghost use Rattle.szg_place.specs.Tables.{numbering_in};
-ghost use Rattle.szg_answers.specs.Answers.{IsAnswer, IsNumberLine, IsOutcomeLine, class_line, mover_word, part_letter, placement_line, spot_line};
-ghost use Rattle.szg_answers.specs.Refusals.{number_refusal, outcome_refusal, place_refusal, placement_refusal_at};
+ghost use Rattle.szg_answers.specs.Answers.{IsAnswer, IsOutcomeLine, class_line, part_letter, placement_line, spot_line};
+ghost use Rattle.szg_answers.specs.Refusals.{outcome_refusal, place_refusal, placement_refusal_at};
 ghost use Rattle.szg_answers.specs.declared.refusal.Refusal.{Refusal};
 
 use crate::lookups::check_index;
@@ -27,10 +27,8 @@ pub(crate) fn index_line<F>(
     ensures refused { (refusal : Refusal) → IsErrOf result (Stop.Refused refusal) → place_refusal (place_fault (numbering_in index.now) placement.now) ≡ Some refusal }
     ensures device { IsErrOf result Stop.Device → ⊥ }
 {
-    match locate(index, &PlacedMen::of(placement)) {
-        Ok(spot) => Ok(spot_line(alloc, spot)?),
-        Err(fault) => Err(Stop::Refused(Refusal::Place(fault))),
-    }
+    let spot = locate(index, &PlacedMen::of(placement)).map_err(Refusal::Place)?;
+    Ok(spot_line(alloc, spot)?)
 }
 
 /// A spot's line.
@@ -40,9 +38,6 @@ pub(crate) fn spot_line(alloc: Global, spot: Spot) -> Result<String, AllocError>
     let letter = part_letter(spot.part);
     format!(in alloc; "part {letter} side {} index {}\n", spot.side, spot.index)
 }
-
-/// The letters of the parts.
-pub(crate) static PARTS: [&str; 4] = ["a", "b", "c", "d"];
 
 /// A part's letter.
 pub(crate) fn part_letter(part: u8) -> &'static str
@@ -68,30 +63,15 @@ pub(crate) fn outcome_answer(
     ensures device { IsErrOf result Stop.Device → ⊥ }
 {
     match table.kind() {
-        Kind::Wdl => match probe_wdl(table, placement) {
-            Ok(class) => Ok(class_line(alloc, class)?),
-            Err(fault) => Err(Stop::Refused(Refusal::Place(fault))),
+        Kind::Wdl => {
+            let class = probe_wdl(table, placement).map_err(Refusal::Place)?;
+            Ok(class_line(alloc, class)?)
+        }
+        Kind::Dtz => match probe_dtz(table, placement, class.number()) {
+            Ok(number) => Ok(format!(in alloc; "{number}\n")?),
+            Err(ProbeFault::Place(fault)) => Err(Stop::Refused(Refusal::Place(fault))),
+            Err(ProbeFault::Map(fault)) => Err(Stop::Refused(Refusal::Map(fault))),
         },
-        Kind::Dtz => number_answer(alloc, table, placement, class),
-    }
-}
-
-/// Returns the line of a placement's number in a DTZ table, in a class.
-fn number_answer(
-    alloc: Global,
-    table: &Table,
-    placement: &Placement,
-    class: AskedClass,
-) -> Result<String, Stop>
-    requires { table.now.contents.kind ≡ Kind.Dtz }
-    ensures stated { IfOk result (λ line. IsNumberLine table.now.contents placement.now class (string_bytes line)) }
-    ensures refused { (refusal : Refusal) → IsErrOf result (Stop.Refused refusal) → number_refusal table.now.contents placement.now class ≡ Some refusal }
-    ensures device { IsErrOf result Stop.Device → ⊥ }
-{
-    match probe_dtz(table, placement, class.number()) {
-        Ok(number) => Ok(format!(in alloc; "{number}\n")?),
-        Err(ProbeFault::Place(fault)) => Err(Stop::Refused(Refusal::Place(fault))),
-        Err(ProbeFault::Map(fault)) => Err(Stop::Refused(Refusal::Map(fault))),
     }
 }
 
@@ -117,28 +97,19 @@ pub(crate) fn placement_answer(
     ensures device { IsErrOf result Stop.Device → ⊥ }
 {
     check_index(table, request, index)?;
-    match placement_of(table, request.part, request.side, index) {
-        Ok(placement) => Ok(placement_line(alloc, &placement)?),
-        Err(fault) => Err(Stop::Refused(Refusal::Place(fault))),
-    }
+    let placement = placement_of(table, request.part, request.side, index).map_err(Refusal::Place)?;
+    Ok(placement_line(alloc, &placement)?)
 }
 
 /// A placement's line: who moves, and the men.
 fn placement_line(alloc: Global, placement: &Placement) -> Result<String, AllocError>
     ensures { IfOk result (λ line. string_bytes line ≡ placement_line placement.now) }
 {
-    let mover = mover_word(placement.mover());
+    let mover = match placement.mover() {
+        Color::White => "w",
+        Color::Black => "b",
+    };
     let mut men = String::new(alloc);
     add_men(placement, &mut men)?;
     format!(in alloc; "{mover}{men}\n")
-}
-
-/// A mover's word.
-fn mover_word(mover: Color) -> &'static str
-    ensures { result.now ≡ mover_word mover }
-{
-    match mover {
-        Color::White => "w",
-        Color::Black => "b",
-    }
 }

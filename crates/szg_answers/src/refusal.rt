@@ -3,16 +3,15 @@ use std::convert::Infallible;
 use szg_build::{BuildFault, DumpFault};
 use szg_file::{MapFault, Reason};
 use szg_place::PlaceFault;
-use szg_values::NameFault;
-use szg_words::MenFault;
+use szg_values::{NameFault, PlacementFault};
 
 /// Why a command is refused, in the order in which it meets these.
 #[derive(Clone, Copy)]
 pub enum Refusal {
     /// The name is no material's.
     Name(NameFault),
-    /// The words make no placement.
-    Men(MenFault),
+    /// The words make no placement. Carries why, or None if a word is no man's.
+    Men(Option<PlacementFault>),
     /// The bytes are no table's: the offset and the reason.
     At(u64, Reason),
     /// A line, from 1, is none of a dump.

@@ -4,12 +4,12 @@ ghost use Rattle.szg_answers.specs.RefusalLines.{numbered_line, refusal_line, re
 
 use crate::refusal::Refusal;
 use std::alloc::{AllocError, Global};
+use szg_archive::reason_word;
 use szg_build::{BuildFault, DumpFault};
 use szg_file::MapFault;
-use szg_named::{name_word, reason_word};
+use szg_named::name_word;
 use szg_place::PlaceFault;
 use szg_values::PlacementFault;
-use szg_words::MenFault;
 
 /// Returns the line of a refusal.
 pub(crate) fn refusal_line(alloc: Global, refusal: Refusal) -> Result<String, AllocError>
@@ -18,8 +18,8 @@ pub(crate) fn refusal_line(alloc: Global, refusal: Refusal) -> Result<String, Al
     let word = refusal_word(refusal);
     match refusal {
         Refusal::Name(_) => worded_line(alloc, "name", word),
-        Refusal::Men(MenFault::Word) => String::from_str(alloc, "refused man\n"),
-        Refusal::Men(MenFault::Placement(_)) => worded_line(alloc, "placement", word),
+        Refusal::Men(None) => String::from_str(alloc, "refused man\n"),
+        Refusal::Men(Some(_)) => worded_line(alloc, "placement", word),
         Refusal::At(place, _) => numbered_line(alloc, "at", place, word),
         Refusal::Line(line, _) => numbered_line(alloc, "line", line, word),
         Refusal::Build(_) => worded_line(alloc, "build", word),
@@ -54,9 +54,9 @@ fn refusal_word(refusal: Refusal) -> &'static str
     match refusal {
         Refusal::Name(fault) => name_word(fault),
         Refusal::At(_, reason) => reason_word(reason),
-        Refusal::Men(MenFault::Placement(PlacementFault::Men)) => "Men",
-        Refusal::Men(MenFault::Placement(PlacementFault::SameSquare)) => "SameSquare",
-        Refusal::Men(MenFault::Placement(PlacementFault::PawnRank)) => "PawnRank",
+        Refusal::Men(Some(PlacementFault::Men)) => "Men",
+        Refusal::Men(Some(PlacementFault::SameSquare)) => "SameSquare",
+        Refusal::Men(Some(PlacementFault::PawnRank)) => "PawnRank",
         Refusal::Line(_, DumpFault::Version) => "Version",
         Refusal::Line(_, DumpFault::Field) => "Field",
         Refusal::Line(_, DumpFault::Number) => "Number",
@@ -79,6 +79,6 @@ fn refusal_word(refusal: Refusal) -> &'static str
         Refusal::Place(PlaceFault::WrongSide) => "WrongSide",
         Refusal::Map(MapFault::Draw) => "Draw",
         Refusal::Map(MapFault::OutsideMap) => "OutsideMap",
-        Refusal::Men(MenFault::Word) | Refusal::Part | Refusal::Index | Refusal::Block(..) => "",
+        Refusal::Men(None) | Refusal::Part | Refusal::Index | Refusal::Block(..) => "",
     }
 }

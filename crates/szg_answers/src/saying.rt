@@ -15,10 +15,7 @@ pub(crate) fn say<W: Output>(writer: &mut W, text: &[u8]) -> Result<(), Stop>
     ensures device { OnErr result (result ≡ Err Stop.Device) }
     ensures quiet { OnOk result (W.failures writer.new ≡ W.failures writer.old) }
 {
-    match give_whole(writer, text) {
-        Ok(()) => Ok(()),
-        Err(_) => Err(Stop::Device),
-    }
+    give_whole(writer, text).map_err(|_| Stop::Device)
 }
 
 /// Writes a line whole, where there is one.

@@ -8,7 +8,7 @@ ghost use Rattle.szg_file.specs.Held.{Shown, file_bytes};
 ghost use Rattle.szg_file.specs.Index.{index_of};
 ghost use Rattle.szg_answers.specs.Answers.{number_line};
 ghost use Rattle.szg_answers.specs.OnFiles.{IsCarriedFrom, ListsValues, MeetsFrom};
-ghost use Rattle.szg_answers.specs.Requests.{IsAnswered, IsListed, IsTableOf, Meets, unplaced_refusal};
+ghost use Rattle.szg_answers.specs.Requests.{IsAnswered, IsListed, IsTableOf, Meets};
 ghost use Rattle.szg_answers.specs.declared.refusal.Refusal.{Refusal};
 ghost use Rattle.szg_words.specs.declared.request.Action.{Action};
 ghost use Rattle.szg_words.specs.declared.request.Task.{Task};
@@ -20,9 +20,9 @@ use itoa::Buffer;
 use std::alloc::{AllocError, Global};
 use std::io::{Error, ErrorKind};
 use szg_build::{StreamFault, stream_dump};
-use szg_file::{NoSink, ReadFault, Scanned, SinkFault, ValueSink, scan};
+use szg_file::{NoSink, ReadFault, Scanned, ValueSink, scan};
 use szg_files::{FileFault, FileSystem, Reasons};
-use szg_io::{Input, Output};
+use szg_io::{DeviceFault, Input, Output};
 use szg_values::Material;
 use szg_words::{Action, Request, Task};
 
@@ -120,22 +120,22 @@ impl<W: Output> ValueSink<W> for LineSink {
         part == self.part && side == self.side
     }
 
-    fn put(&mut self, values: &[u16], out: &mut W) -> Result<(), SinkFault> {
+    fn put(&mut self, values: &[u16], out: &mut W) -> Result<(), DeviceFault> {
         match add_lines(&mut self.text, values, out) {
             Ok(()) => Ok(()),
             Err(stop) => {
                 self.failed = matches!(stop, Stop::Device);
-                Err(SinkFault)
+                Err(DeviceFault)
             }
         }
     }
 
-    fn put_same(&mut self, value: u16, count: u64, out: &mut W) -> Result<(), SinkFault> {
+    fn put_same(&mut self, value: u16, count: u64, out: &mut W) -> Result<(), DeviceFault> {
         match add_same(&mut self.text, value, count, out) {
             Ok(()) => Ok(()),
             Err(stop) => {
                 self.failed = matches!(stop, Stop::Device);
-                Err(SinkFault)
+                Err(DeviceFault)
             }
         }
     }
@@ -153,9 +153,10 @@ pub(crate) fn lists_values(task: &Task) -> bool
     }
 }
 
-/// Checks the file of the request's name and kind. It keeps no block.
-fn read_index<F: Input>(alloc: Global, request: &Request, file: &mut F) -> Result<Scanned, Stop>
-    requires placed { unplaced_refusal request.now.action ≡ None }
+/// Checks the file of the request's name and kind, and whether the table has the part and side whose values are asked. It keeps
+/// no block.
+fn read_listed<F: Input>(alloc: Global, request: &Request, file: &mut F) -> Result<Scanned, Stop>
+    requires listed { IsListed request.now.action }
     requires first { F.moved file.old ≡ [] }
     ensures table { IfOk result (λ scanned. (t : Shown) × IsTableOf request.now t × (scanned.index ≡ index_of t.contents) × Takes F.Input file.old file.new (file_bytes t) 1) }
     ensures refused { (refusal : Refusal) → IsErrOf result (Stop.Refused refusal) → Meets F.Input (Task.OnTable request.now) file.old file.new refusal }
@@ -164,24 +165,14 @@ fn read_index<F: Input>(alloc: Global, request: &Request, file: &mut F) -> Resul
         Ok(material) => material,
         Err(fault) => return Err(Stop::Refused(Refusal::Name(fault))),
     };
-    match scan(alloc, material, request.kind, file, &mut NoSink, &mut ()) {
-        Ok(scanned) => Ok(scanned),
+    let scanned = match scan(alloc, material, request.kind, file, &mut NoSink, &mut ()) {
+        Ok(scanned) => scanned,
         Err(ReadFault::Refused { place, reason }) => {
-            Err(Stop::Refused(Refusal::At(place, reason)))
+            return Err(Stop::Refused(Refusal::At(place, reason)));
         }
-        Err(ReadFault::Device) => Err(Stop::Device),
-        Err(ReadFault::Memory) => Err(Stop::Memory),
-    }
-}
-
-/// Checks the file of the request's name and kind, and whether the table has the part and side whose values are asked.
-fn read_listed<F: Input>(alloc: Global, request: &Request, file: &mut F) -> Result<Scanned, Stop>
-    requires listed { IsListed request.now.action }
-    requires first { F.moved file.old ≡ [] }
-    ensures table { IfOk result (λ scanned. (t : Shown) × IsTableOf request.now t × (scanned.index ≡ index_of t.contents) × Takes F.Input file.old file.new (file_bytes t) 1) }
-    ensures refused { (refusal : Refusal) → IsErrOf result (Stop.Refused refusal) → Meets F.Input (Task.OnTable request.now) file.old file.new refusal }
-{
-    let scanned = read_index(alloc, request, file)?;
+        Err(ReadFault::Device) => return Err(Stop::Device),
+        Err(ReadFault::Memory) => return Err(Stop::Memory),
+    };
     if let Action::Values = &request.action {
         match scanned.index.size(request.part, request.side) {
             Some(_) => {}

@@ -2,7 +2,7 @@
 use Rattle.std.proofs.Common.{◌≡◌, ℕ, ◌+◌, ◌<◌, Bool, true, false, length, get_or, map, take, Bor, Option, Some, None, List, [], ◌∷◌, ◌++◌, refl, sym, ap, subst, ◌∙◌, append_assoc, append-nil, arith, if◌then◌else◌}
 use Rattle.std.proofs.lemmas.List.{length-map, length-take-le, map-append, take_more}
 use Rattle.szg_archive.specs.Shards.{has, shard_after, taken_of}
-use Rattle.szg_archive.specs.declared.shard.FileShard.{FileShard}
+use Rattle.szg_named.specs.declared.checks.FileShard.{FileShard}
 use Rattle.szg_archive.specs.Verdicts.{AllMissing, AreListed, AreMissing, IsListedAt, Listed, file_at, listed_of}
 use Rattle.szg_sums.specs.declared.lists.Sums.{Sums}
 use Rattle.szg_archive.specs.declared.file_verdict.FileVerdict.TheVariants.{Missing}

@@ -1,5 +1,5 @@
 -- A report, extended by one file.
-use Rattle.std.proofs.Common.{IfOk, Result, Ok, Err, ◌≡◌, ℕ, ◌+◌, ◌<◌, length, get_or, map, take, Bool, true, false, List, [], ◌∷◌, ◌++◌, Option, inr, refl, sym, ap, subst, ◌∙◌, append_assoc, append-nil, arith}
+use Rattle.std.proofs.Common.{IfOk, IfSome, Result, Ok, Err, ◌≡◌, ℕ, ◌+◌, ◌<◌, length, get_or, map, take, Bool, true, false, List, [], ◌∷◌, ◌++◌, Option, Some, None, inr, refl, sym, ap, subst, ◌∙◌, append_assoc, append-nil, arith}
 use Rattle.std.specs.List.{sum_by}
 use Rattle.std.proofs.lemmas.List.{map-append, take_more}
 use Rattle.std.proofs.lemmas.List.Sums.{sum_by-append}
@@ -15,8 +15,7 @@ use Rattle.szg_archive.specs.declared.file_verdict.FileVerdict.TheVariants.{Whol
 use Rattle.szg_archive.specs.declared.entries.PathToCheck.{PathToCheck}
 use Rattle.szg_archive.specs.declared.options.CheckOptions.{CheckOptions}
 use Rattle.szg_archive.specs.declared.due.Due.{Due}
-use Rattle.szg_archive.specs.declared.stop.CheckStop.{CheckStop}
-use Rattle.szg_archive.specs.declared.stop.CheckCounts.{CheckCounts}
+use Rattle.szg_archive.specs.declared.counts.CheckCounts.{CheckCounts}
 use Rattle.szg_archive.proofs.Listing.{files_are_listed, none_missing}
 
 pub reports_more : {S F : Type 0} (content : S → List ℕ → Option (List ℕ)) (failures : S → ℕ) (device : input.Ghosts F) (options : CheckOptions)
@@ -107,11 +106,11 @@ module _ {S F : Type 0} (content : S → List ℕ → Option (List ℕ)) (failur
 -- what was found, and what is missing
 module _ {S F W : Type 0} (content : S → List ℕ → Option (List ℕ)) (failures : S → ℕ) (device : input.Ghosts F) (writing : output.Ghosts W)
     (paths : List (List ℕ)) (system system' : S) (writer writer' : W) where
-  pub found_report : (options : CheckOptions) (entries more all chosen : List PathToCheck) (result : Result CheckReport CheckStop) → AreListed paths (map listed_of entries) → AreMissing options.sums (map listed_of more) → all ≡ entries ++ more →
+  pub found_report : {E : Type 0} (options : CheckOptions) (entries more all chosen : List PathToCheck) (result : Result (Option CheckReport) E) → AreListed paths (map listed_of entries) → AreMissing options.sums (map listed_of more) → all ≡ entries ++ more →
       map listed_of chosen ≡ shard_of options.shard (map listed_of all) →
-      IfOk result (λ report. IsReportOn content failures device writing options (map listed_of chosen) system system' writer writer' report.counts report.manifest.items) →
-      IfOk result (λ report. IsFoundReport content failures device writing options paths system system' writer writer' report)
-  found_report options entries more all chosen (Ok report) listed missing joined are h = (
+      IfOk result (λ report. IfSome report (λ r. IsReportOn content failures device writing options (map listed_of chosen) system system' writer writer' r.counts r.manifest.items)) →
+      IfOk result (λ report. IfSome report (IsFoundReport content failures device writing options paths system system' writer writer'))
+  found_report options entries more all chosen (Ok (Some report)) listed missing joined are h = (
     map listed_of entries,
     map listed_of more,
     listed,
@@ -119,18 +118,20 @@ module _ {S F W : Type 0} (content : S → List ℕ → Option (List ℕ)) (fail
     subst (λ (z : List Listed). IsReportOn content failures device writing options z system system' writer writer' report.counts report.manifest.items)
         (are ∙ ap (λ (z : List PathToCheck). shard_of options.shard (map listed_of z)) joined ∙ ap (shard_of options.shard) (map-append listed_of entries more)) h,
   )
+  found_report options entries more all chosen (Ok None) listed missing joined are h = tt
   found_report options entries more all chosen (Err stop) listed missing joined are h = tt
 
-  pub files_report : (entries : List PathToCheck) (result : Result CheckReport CheckStop) → map listed_of entries ≡ map file_at paths →
-      IfOk result (λ report. IsReportOn content failures device writing plain_options (map listed_of entries) system system' writer writer' report.counts report.manifest.items) →
-      IfOk result (λ report. IsFoundReport content failures device writing plain_options paths system system' writer writer' report)
-  files_report entries (Ok report) are h = (
+  pub files_report : {E : Type 0} (entries : List PathToCheck) (result : Result (Option CheckReport) E) → map listed_of entries ≡ map file_at paths →
+      IfOk result (λ report. IfSome report (λ r. IsReportOn content failures device writing plain_options (map listed_of entries) system system' writer writer' r.counts r.manifest.items)) →
+      IfOk result (λ report. IfSome report (IsFoundReport content failures device writing plain_options paths system system' writer writer'))
+  files_report entries (Ok (Some report)) are h = (
     map file_at paths,
     [],
     files_are_listed paths,
     none_missing plain_options.sums,
     subst (λ (z : List Listed). IsReportOn content failures device writing plain_options z system system' writer writer' report.counts report.manifest.items) (are ∙ sym (append-nil (map file_at paths))) h,
   )
+  files_report entries (Ok None) are h = tt
   files_report entries (Err stop) are h = tt
 
 -- what was found by what the lists have for a path

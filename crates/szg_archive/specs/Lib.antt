@@ -1,5 +1,6 @@
 pub mod Verdicts
 pub mod Lines
+pub mod ReasonWords
 pub mod Requested
 pub mod Records
 pub mod Hashing

@@ -1,11 +1,12 @@
 -- The lines of a report.
 use Rattle.std.specs.Prelude.{◌≡◌, ℕ, ◌+◌, ◌/◌, ◌%◌, ◌==◌, ◌||◌, nat_lt, Bool, true, false, if◌then◌else◌, List, [], ◌∷◌, ◌++◌, flat_map, codes, decimal}
-use Rattle.szg_named.specs.Texts.{name_word, reason_word}
+use Rattle.szg_named.specs.Texts.{name_word}
+use Rattle.szg_archive.specs.ReasonWords.{reason_word}
 use Rattle.szg_archive.specs.declared.file_verdict.FileVerdict.{FileVerdict}
 use Rattle.szg_archive.specs.declared.file_verdict.FileVerdict.TheVariants.{Whole, Ending, Name, At, Trailing, Unopened, Unread, NoText, Empty, Skipped, Kept, Differs, Unlisted, Missing}
 use Rattle.szg_archive.specs.declared.file_verdict.Skip.{Skip}
 use Rattle.szg_archive.specs.declared.file_verdict.Skip.TheVariants as skips
-use Rattle.szg_archive.specs.declared.stop.CheckCounts.{CheckCounts}
+use Rattle.szg_archive.specs.declared.counts.CheckCounts.{CheckCounts}
 
 -- ---- paths
 

@@ -3,13 +3,14 @@ use Rattle.std.specs.Prelude.{◌≡◌, ℕ, ◌+◌, ◌/◌, ◌%◌, ◌==�
 use Rattle.std.specs.List.{concat}
 use Rattle.std.specs.Str.{bytes_eq}
 use Rattle.hex.specs.Hex.{encode_lower}
-use Rattle.szg_named.specs.Texts.{name_word, reason_word}
+use Rattle.szg_named.specs.Texts.{name_word}
+use Rattle.szg_archive.specs.ReasonWords.{reason_word}
 use Rattle.szg_archive.specs.Lines.{IsLine, empty, escaped_byte, hex_digit, no_text, path_text, skip_reason, summary_text}
 use Rattle.szg_archive.specs.declared.file_verdict.FileVerdict.{FileVerdict}
 use Rattle.szg_archive.specs.declared.file_verdict.FileVerdict.TheVariants.{Whole, Ending, Name, At, Trailing, Unopened, Unread, NoText, Empty, Skipped, Kept, Differs, Unlisted, Missing}
-use Rattle.szg_archive.specs.declared.report_format.ReportFormat.{ReportFormat}
-use Rattle.szg_archive.specs.declared.report_format.ReportFormat.TheVariants.{Text, Tsv, Json}
-use Rattle.szg_archive.specs.declared.stop.CheckCounts.{CheckCounts}
+use Rattle.szg_named.specs.declared.checks.ReportFormat.{ReportFormat}
+use Rattle.szg_named.specs.declared.checks.ReportFormat.TheVariants.{Text, Tsv, Json}
+use Rattle.szg_archive.specs.declared.counts.CheckCounts.{CheckCounts}
 
 -- ---- fields
 

@@ -1,6 +1,6 @@
 -- Shards: every N-th of the files.
 use Rattle.std.specs.Prelude.{ℕ, ◌+◌, ◌%◌, ◌==◌, nat_lt, Bool, ◌&&◌, List, [], ◌∷◌, ◌++◌, Option, Some, None, if◌then◌else◌}
-use Rattle.szg_archive.specs.declared.shard.FileShard.{FileShard}
+use Rattle.szg_named.specs.declared.checks.FileShard.{FileShard}
 
 -- whether a shard has the file after so many others
 abbrev pub has : FileShard → ℕ → Bool

@@ -34,8 +34,8 @@ use Rattle.szg_archive.specs.declared.options.CheckOptions.{CheckOptions}
 use Rattle.szg_archive.specs.declared.many.CheckReport.{CheckReport}
 use Rattle.szg_archive.specs.declared.one.CheckedFile.{CheckedFile}
 use Rattle.szg_named.specs.declared.named.Naming.{Naming}
-use Rattle.szg_archive.specs.declared.report_format.ReportFormat.TheVariants as report_formats
-use Rattle.szg_archive.specs.declared.stop.CheckCounts.{CheckCounts}
+use Rattle.szg_named.specs.declared.checks.ReportFormat.TheVariants as report_formats
+use Rattle.szg_archive.specs.declared.counts.CheckCounts.{CheckCounts}
 
 -- The verdict on an opened file. After a table there is the end of the file, or one more byte, which was read, too.
 abbrev pub IsVerdictOn : {F : Type 0} → input.Ghosts F → Sides → Kind → F → F → FileVerdict → Type 0
@@ -125,19 +125,6 @@ IsFileVerdict content failures device naming due has_digest path system system' 
 -- each file by its own name, no trailing bytes, a report for a reader, no lists of sums, all files, no log, no manifest
 abbrev pub plain_options : CheckOptions
 plain_options = record { naming = record { name = None; kind = None }; allow_trailing = false; format = report_formats.Text; quiet = false; sums = None; shard = None; log = None; has_manifest = false }
-
--- the options with other sums and records
-abbrev pub options_with : CheckOptions → Option (Bor Sums) → Option (Bor Log) → CheckOptions
-options_with options sums log = record {
-  naming = options.naming;
-  allow_trailing = options.allow_trailing;
-  format = options.format;
-  quiet = options.quiet;
-  sums = sums;
-  shard = options.shard;
-  log = log;
-  has_manifest = options.has_manifest;
-}
 
 -- a path that a report is of, and its verdict if it is known without opening a file
 abbrev pub Listed : Type 0

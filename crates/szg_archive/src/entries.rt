@@ -1,17 +1,16 @@
 //! What a check reports on: files at paths, and what is below folders.
 ghost use Rattle.std.specs.Prelude.{◌≡◌, ◌++◌, IfOk, OnOk, map};
-ghost use Rattle.szg_archive.specs.Shards.{shard_after, shard_of, taken_of};
-ghost use Rattle.szg_archive.specs.Verdicts.{AllMissing, AreListed, AreMissing, IsListedAt, file_at, listed_of};
+ghost use Rattle.szg_archive.specs.Shards.{has, shard_of, taken_of};
+ghost use Rattle.szg_archive.specs.Verdicts.{AreListed, AreMissing, IsListedAt, file_at, listed_of};
 
 use crate::file_verdict::{FileVerdict, Skip};
-use crate::shard::FileShard;
 use std::alloc::{AllocError, Global};
 use std::fs;
 use std::io::Read;
 use std::path::Path;
 use std::rt::Files;
-use szg_files::{Below, Finding, files_below, is_folder};
-use szg_named::named_by;
+use szg_files::{Below, Finding, files_below};
+use szg_named::{FileShard, named_by};
 use szg_sums::{Sums, normal};
 use szg_values::{Kind, Material};
 
@@ -123,12 +122,12 @@ fn entries_at_path<R: Files>(
     if named_by(path).is_some() {
         return files_at(alloc, &[path]);
     }
-    match is_folder(files, path) {
-        Ok(true) => entries_below(alloc, files, path),
-        Ok(false) => files_at(alloc, &[path]),
-        Err(fault) => {
+    match files.metadata(path) {
+        Ok(found) if found.is_dir() => entries_below(alloc, files, path),
+        Ok(_) => files_at(alloc, &[path]),
+        Err(error) => {
             let mut entries = Vec::new(alloc);
-            let note = Some(FileVerdict::Unopened(fault));
+            let note = Some(FileVerdict::Unopened(error.into()));
             entries.push(PathToCheck::new(alloc, path, note)?)?;
             Ok(entries)
         }
@@ -181,6 +180,13 @@ pub(crate) fn missing(
     Ok(found)
 }
 
+/// Returns whether the file after `before` others is one of a shard's. A shard whose count is 0 has none.
+fn has(shard: &FileShard, before: u64) -> bool
+    ensures { result ≡ has shard.now before }
+{
+    shard.count > 0 && before % shard.count + 1 == shard.number
+}
+
 /// Appends an entry, which has so many before it, if it is a shard's.
 #[tactic(auto, using(crate::proofs::Listing::entry_taken, crate::proofs::Listing::entry_passed))]
 fn add_in(
@@ -192,7 +198,7 @@ fn add_in(
 ) -> Result<(), AllocError>
     ensures { OnOk result (map listed_of chosen.new.items ≡ map listed_of chosen.old.items ++ taken_of shard.now before (listed_of entry.now)) }
 {
-    if !shard.has(before) {
+    if !has(shard, before) {
         return Ok(());
     }
     let entry = PathToCheck::new(alloc, entry.path.as_str(), entry.note)?;

@@ -3,11 +3,11 @@ ghost use Rattle.std.specs.Prelude.{◌≡◌, ◌++◌, ◌∷◌, [], ◌+◌,
 ghost use Rattle.szg_archive.specs.Records.{escaped_byte_in, escaped_in, json_byte};
 ghost use Rattle.szg_archive.specs.Lines.{IsLine, IsVerdictText, escaped, escaped_byte, hex_digit, path_text, skip_reason, more_text, summary_text};
 
+use crate::counts::CheckCounts;
 use crate::file_verdict::{FileVerdict, Skip};
-use crate::report_format::ReportFormat;
-use crate::stop::CheckCounts;
+use crate::reason_words::reason_word;
 use std::alloc::{AllocError, Global};
-use szg_named::{error_text, fault_text, name_word, reason_word};
+use szg_named::{ReportFormat, error_text, fault_text, name_word};
 
 /// Returns the hexadecimal digit of a number below 16.
 fn hex_digit(value: u8) -> u8

@@ -5,7 +5,7 @@ use std::fs;
 use std::io::Read;
 use std::rt::Files;
 use szg_files::FileFault;
-use szg_sums::{Sums, SumsFault};
+use szg_sums::FromLines;
 
 /// A list of sums, or a log, that is not read, and why.
 #[derive(Clone, Copy)]
@@ -14,18 +14,6 @@ pub enum ListFailure<'a> {
     File(&'a str, FileFault),
     /// In the file at this path the line of this number, from 1 on, isn't one of a list, or of a log.
     Line(&'a str, u64),
-}
-
-/// What is read from lines.
-pub trait FromLines {
-    /// Adds the lines of a text. Errors: the first line that is none of its lines; an allocation was refused.
-    fn add_lines(&mut self, alloc: Global, text: &[u8]) -> Result<(), SumsFault>;
-}
-
-impl FromLines for Sums {
-    fn add_lines(&mut self, alloc: Global, text: &[u8]) -> Result<(), SumsFault> {
-        self.add(alloc, text)
-    }
 }
 
 /// Reads lists of sums, or logs.
@@ -44,9 +32,9 @@ pub fn read_lists<'a, R: Files, L: FromLines>(
             Err(fault) => return Err(ListFailure::File(path, fault)),
         };
         match read.add_lines(alloc, &text) {
-            Ok(()) => {}
-            Err(SumsFault::Line(line)) => return Err(ListFailure::Line(path, line)),
-            Err(SumsFault::Memory) => return Err(ListFailure::File(path, FileFault::Memory)),
+            Ok(None) => {}
+            Ok(Some(line)) => return Err(ListFailure::Line(path, line)),
+            Err(_) => return Err(ListFailure::File(path, FileFault::Memory)),
         }
     }
     Ok(())

@@ -2,9 +2,8 @@
 ghost use Rattle.std.specs.Prelude.{◌≡◌};
 ghost use Rattle.szg_archive.specs.Logs.{entry_of, past_of};
 
-use crate::lists::FromLines;
 use std::alloc::{AllocError, Global};
-use szg_sums::{SumsFault, normal};
+use szg_sums::{FromLines, normal};
 
 /// A file's length in bytes, and the nanoseconds from 1970 to its last change.
 #[derive(Clone, Copy)]
@@ -57,11 +56,9 @@ impl Log {
 impl FromLines for Log {
     /// Adds the records of a text, as a check writes them with `--format tsv` or `json`. Summaries and empty lines are passed
     /// over, and what follows the last line's end: a run that was cut off wrote it.
-    ///
-    /// Errors: the first line that is neither a record nor a summary; an allocation was refused.
-    fn add_lines(&mut self, alloc: Global, text: &[u8]) -> Result<(), SumsFault> {
+    fn add_lines(&mut self, alloc: Global, text: &[u8]) -> Result<Option<u64>, AllocError> {
         let Some(end) = text.iter().rposition(|byte| *byte == b'\n') else {
-            return Ok(());
+            return Ok(None);
         };
         let mut number = 0u64;
         'lines: for line in text[..end].split(|byte| *byte == b'\n') {
@@ -73,10 +70,10 @@ impl FromLines for Log {
             }
             match entry_in(alloc, line)? {
                 Some(entry) => self.entries.push(entry)?,
-                None => return Err(SumsFault::Line(number)),
+                None => return Ok(Some(number)),
             }
         }
-        Ok(())
+        Ok(None)
     }
 }
 

@@ -1,9 +1,10 @@
 //! The check of many files.
-ghost use Rattle.std.specs.Prelude.{◌≡◌, ◌+◌, ◌<◌, ◌^◌, IfOk, IfSome, IsErrOf, map, string_bytes};
+ghost use Rattle.std.specs.Prelude.{◌≡◌, ◌+◌, ◌<◌, ◌^◌, IfNone, IfOk, IfSome, map, string_bytes};
 ghost use Rattle.szg_io.specs.Device.{HasFailed};
 ghost use Rattle.szg_archive.specs.Records.{IsShownLine, is_bad, manifest_line, report_end};
 ghost use Rattle.szg_archive.specs.Verdicts.{IsFoundReport, IsLeftOut, IsReport, IsReportOn, IsVerdictAt, listed_of, plain_options};
 
+use crate::counts::CheckCounts;
 use crate::due::due_of;
 use crate::entries::{PathToCheck, entries_at, files_at, in_shard, missing};
 use crate::file_verdict::FileVerdict;
@@ -12,14 +13,13 @@ use crate::log::FileState;
 use crate::one::{CheckedFile, check_path};
 use crate::options::CheckOptions;
 use crate::records::{Timing, json_summary, report_line, sum_line};
-use crate::report_format::ReportFormat;
-use crate::stop::{CheckCounts, CheckStop};
 use std::alloc::{AllocError, Global};
 use std::os::unix::fs::MetadataExt;
 use std::rt::Files;
 use std::time::{Clock, Duration, Instant};
 use szg_files::FileSystem;
 use szg_io::{Output, give_whole};
+use szg_named::ReportFormat;
 
 /// What a check has found: the numbers of files, and, if it is asked for, a list of the SHA-256 digests of those that passed.
 #[derive(Drop)]
@@ -203,17 +203,16 @@ fn report_end(
 }
 
 /// Checks the files at these paths in their order, as `check_entries` with no options.
-#[tactic(auto, using(crate::proofs::Reporting::files_report))]
 pub fn check_files<S: FileSystem, D: Files + Clock, W: Output>(
     alloc: Global,
     system: &mut S,
     machine: &D,
     paths: &[&str],
     writer: &mut W,
-) -> Result<CheckReport, CheckStop>
-    ensures report { IfOk result (λ report. IsReport S.content S.failures S.File.Input W.Output plain_options (map (λ path. path.now) paths.now) system.old system.new writer.old writer.new report) }
-    ensures found { IfOk result (λ report. IsFoundReport S.content S.failures S.File.Input W.Output plain_options (map (λ path. path.now) paths.now) system.old system.new writer.old writer.new report) }
-    ensures device { IsErrOf result CheckStop.Device → HasFailed (W.failures writer.old) (W.failures writer.new) (W.interrupted writer.new) }
+) -> Result<Option<CheckReport>, AllocError>
+    ensures report { IfOk result (λ report. IfSome report (IsReport S.content S.failures S.File.Input W.Output plain_options (map (λ path. path.now) paths.now) system.old system.new writer.old writer.new)) }
+    ensures found { IfOk result (λ report. IfSome report (IsFoundReport S.content S.failures S.File.Input W.Output plain_options (map (λ path. path.now) paths.now) system.old system.new writer.old writer.new)) }
+    ensures device { IfOk result (λ report. IfNone report (HasFailed (W.failures writer.old) (W.failures writer.new) (W.interrupted writer.new))) }
 {
     let entries = files_at(alloc, paths)?;
     check_entries(
@@ -237,9 +236,9 @@ pub fn check_found<S: FileSystem, D: Files + Clock, W: Output>(
     options: CheckOptions<'_>,
     paths: &[&str],
     writer: &mut W,
-) -> Result<CheckReport, CheckStop>
-    ensures found { IfOk result (λ report. IsFoundReport S.content S.failures S.File.Input W.Output options.entry (map (λ path. path.now) paths.now) system.old system.new writer.old writer.new report) }
-    ensures device { IsErrOf result CheckStop.Device → HasFailed (W.failures writer.old) (W.failures writer.new) (W.interrupted writer.new) }
+) -> Result<Option<CheckReport>, AllocError>
+    ensures found { IfOk result (λ report. IfSome report (IsFoundReport S.content S.failures S.File.Input W.Output options.entry (map (λ path. path.now) paths.now) system.old system.new writer.old writer.new)) }
+    ensures device { IfOk result (λ report. IfNone report (HasFailed (W.failures writer.old) (W.failures writer.new) (W.interrupted writer.new))) }
 {
     let mut entries = entries_at(alloc, machine, paths)?;
     let mut more = missing(alloc, options.sums, &entries)?;
@@ -251,7 +250,7 @@ pub fn check_found<S: FileSystem, D: Files + Clock, W: Output>(
 /// Checks the files of these entries in their order; writes a line or a record of each, and a summary. The clock and the
 /// files' times are read for records alone, or where there is a log.
 ///
-/// Errors: `Device` only if the writer failed, `Memory` if an allocation was refused.
+/// None if the writer failed. Errors: an allocation was refused.
 pub fn check_entries<S: FileSystem, D: Files + Clock, W: Output>(
     alloc: Global,
     system: &mut S,
@@ -259,9 +258,9 @@ pub fn check_entries<S: FileSystem, D: Files + Clock, W: Output>(
     options: CheckOptions<'_>,
     entries: &[PathToCheck],
     writer: &mut W,
-) -> Result<CheckReport, CheckStop>
-    ensures report { IfOk result (λ report. IsReportOn S.content S.failures S.File.Input W.Output options.entry (map listed_of entries.now) system.old system.new writer.old writer.new report.counts report.manifest.items) }
-    ensures device { IsErrOf result CheckStop.Device → HasFailed (W.failures writer.old) (W.failures writer.new) (W.interrupted writer.new) }
+) -> Result<Option<CheckReport>, AllocError>
+    ensures report { IfOk result (λ report. IfSome report (λ r. IsReportOn S.content S.failures S.File.Input W.Output options.entry (map listed_of entries.now) system.old system.new writer.old writer.new r.counts r.manifest.items)) }
+    ensures device { IfOk result (λ report. IfNone report (HasFailed (W.failures writer.old) (W.failures writer.new) (W.interrupted writer.new))) }
 {
     let mut tally = CheckCounts {
         good: 0,
@@ -274,17 +273,17 @@ pub fn check_entries<S: FileSystem, D: Files + Clock, W: Output>(
     'entries: for entry in entries {
         let reported = report_entry(alloc, system, machine, options, entry)?;
         if give_whole(writer, &reported.line).is_err() {
-            return Err(CheckStop::Device);
+            return Ok(None);
         }
         manifest.extend_from_slice(&reported.listed)?;
         tally = tally.with(&reported.found.verdict, options.allow_trailing);
     }
     let end = report_end(alloc, options.format, &tally)?;
     if give_whole(writer, end.as_bytes()).is_err() {
-        return Err(CheckStop::Device);
+        return Ok(None);
     }
-    Ok(CheckReport {
+    Ok(Some(CheckReport {
         counts: tally,
         manifest,
-    })
+    }))
 }

@@ -121,16 +121,8 @@ fn check_hashed<F: Input + Reasons + Drop, H: Hasher>(
         });
     }
     let (input, is_met) = hashed.compared(due);
-    if !is_met {
-        return Ok(Checked {
-            input,
-            verdict: FileVerdict::Differs,
-        });
-    }
-    Ok(Checked {
-        input,
-        verdict: found,
-    })
+    let verdict = if is_met { found } else { FileVerdict::Differs };
+    Ok(Checked { input, verdict })
 }
 
 /// Checks an opened file, and what its digest has to be.

@@ -1,9 +1,7 @@
 //! How files are checked.
 
 use crate::log::Log;
-use crate::report_format::ReportFormat;
-use crate::shard::FileShard;
-use szg_named::Naming;
+use szg_named::{FileShard, Naming, ReportFormat};
 use szg_sums::Sums;
 
 /// How files are checked.
@@ -27,9 +25,9 @@ pub struct CheckOptions<'a> {
     pub has_manifest: bool,
 }
 
-impl<'a> CheckOptions<'a> {
+impl CheckOptions<'_> {
     ghost use Rattle.std.specs.Prelude.{◌≡◌};
-    ghost use Rattle.szg_archive.specs.Verdicts.{options_with, plain_options};
+    ghost use Rattle.szg_archive.specs.Verdicts.{plain_options};
 
     /// Each file by its own name, no trailing bytes, a report for a reader, no lists of sums, all files, no log, no manifest.
     pub fn plain() -> CheckOptions<'static>
@@ -48,12 +46,5 @@ impl<'a> CheckOptions<'a> {
             log: None,
             has_manifest: false,
         }
-    }
-
-    /// Returns the options with these sums and records.
-    pub fn with(self, sums: Option<&'a Sums>, log: Option<&'a Log>) -> CheckOptions<'a>
-        ensures { result ≡ options_with self.entry sums.entry log.entry }
-    {
-        CheckOptions { sums, log, ..self }
     }
 }

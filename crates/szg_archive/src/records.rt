@@ -3,13 +3,13 @@ ghost use Rattle.std.specs.Prelude.{◌≡◌, ◌+◌, ◌++◌, ◌^◌, ◌<�
 ghost use Rattle.std.specs.Duration.{as_nanos};
 ghost use Rattle.szg_archive.specs.Records.{IsReasonField, IsReportLine, bytes_field, json_others, json_reason, json_summary, json_text, json_times, listed_byte, listed_name, number_or, offset_field, quoted, seconds_or, sum_line, sum_mark, tsv_reason, tsv_text, verdict_word};
 
+use crate::counts::CheckCounts;
 use crate::file_verdict::FileVerdict;
 use crate::lines::{EMPTY, NO_TEXT, escaped_in, path_text, skip_reason, verdict_line};
-use crate::report_format::ReportFormat;
-use crate::stop::CheckCounts;
+use crate::reason_words::reason_word;
 use std::alloc::{AllocError, Global};
 use std::time::Duration;
-use szg_named::{error_text, fault_text, name_word, reason_word};
+use szg_named::{ReportFormat, error_text, fault_text, name_word};
 
 /// The word for what a file's check says: `ok`, `refused`, `unread`, `kept` or `skipped`.
 fn verdict_word(verdict: &FileVerdict, allow_trailing: bool) -> &'static str

@@ -1,9 +1,10 @@
 -- Public view of a sound subtable: the subtable, its size, its value if it is constant, its blocks one after another,
 -- the number of failures of their source, the number of bytes requested from it, and the number of bytes requested for
 -- one block.
-use Rattle.std.specs.Prelude.{ℕ, ◌≡◌, ◌<◌, ◌^◌, List, length, IfSome}
+use Rattle.std.specs.Prelude.{ℕ, ◌≡◌, ◌<◌, ◌^◌, List, Option, Some, None, Result, length, IfSome}
 use Rattle.szg_code.specs.Acceptance.{IsCode}
-use Rattle.szg_block.specs.BlocksTrait.{packed_blocks}
+use Rattle.szg_block.specs.BlocksTrait.{failed_after, packed_blocks, raised}
+use Rattle.szg_block.specs.Layout.{Layout}
 use Rattle.szg_block.specs.declared.Sub.{Sub}
 use Rattle.szg_block.specs.Subtable.{layout_of, IsShapedHead, IsSoundOver, values_over, steps_over}
 use Rattle.szg_block.specs.declared.probing.Steps.{Steps}
@@ -36,3 +37,20 @@ values_shown shown = values_over shown.sub shown.packed shown.size shown.constan
 -- the steps of a look-up of value i
 abbrev pub steps_shown : Shown → ℕ → Steps
 steps_shown shown i = steps_over shown.sub shown.packed i
+
+-- the number of bytes requested after a look-up: one block was requested, and none in a constant subtable
+abbrev pub requested_by : Option Layout → Shown → ℕ
+requested_by None shown = shown.requested
+requested_by (Some layout) shown = raised shown.requested shown.cost
+
+-- a look-up only raises the counts
+abbrev pub after_look_up : {A E : Type 0} → Result A E → Shown → Shown
+after_look_up result shown = record {
+  sub = shown.sub;
+  size = shown.size;
+  constant = shown.constant;
+  packed = shown.packed;
+  failures = failed_after result shown.failures;
+  requested = requested_by (layout_of shown.sub) shown;
+  cost = shown.cost;
+}

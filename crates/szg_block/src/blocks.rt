@@ -1,14 +1,14 @@
 //! Access to the blocks of a subtable, one at a time.
 
-ghost use Rattle.std.specs.Prelude.{◌≡◌, ◌<◌, ℕ, List, IfOk, IfSome, length};
+ghost use Rattle.std.specs.Prelude.{◌≡◌, ◌<◌, ◌/◌, ◌^◌, ℕ, List, IfNone, IfOk, IfSome, length};
 ghost use Rattle.std.specs.Io.BufRead.{Rests};
 ghost use Rattle.std.specs.Borrow.{sem};
 ghost use Rattle.szg_code.specs.Acceptance.{IsCode};
+ghost use Rattle.szg_block.specs.Block.{block_at};
 ghost use Rattle.szg_block.specs.Subtable.{layout_of, packed_of};
 ghost use Rattle.szg_block.specs.BlocksTrait.{raised, failed_after};
 
 use crate::Sub;
-use crate::packed::block_of;
 
 /// The error of a call whose source failed.
 #[derive(Debug, Clone, Copy, PartialEq, Eq)]
@@ -54,9 +54,6 @@ pub struct Whole<'a> {
 }
 
 impl<'a> Blocks for Whole<'a> {
-    ghost use Rattle.std.specs.Prelude.{◌/◌, ◌^◌};
-    ghost use Rattle.szg_block.specs.Block.{block_at};
-
     ghost count = { λ whole. length whole.packed.now / 2 ^ whole.block_bits };
 
     ghost bytes = { λ whole n. block_at whole.block_bits whole.packed.now n };
@@ -102,4 +99,25 @@ pub(crate) fn blocks_in(sub: &Sub) -> Whole<'_>
             }
         }
     }
+}
+
+/// Returns the number of a subtable's blocks; 0 if it is constant.
+pub fn block_count(sub: &Sub) -> u32
+    ensures blocks { IfSome (layout_of sub.now) (λ layout. result ≡ layout.blocks) }
+    ensures none { IfNone (layout_of sub.now) (result ≡ 0) }
+{
+    match sub {
+        Sub::Constant { .. } => 0,
+        Sub::Pairs { blocks, .. } => *blocks,
+    }
+}
+
+/// Returns block `n` of `packed`, whose blocks have `2^block_bits` bytes each.
+pub fn block_of(packed: &[u8], block_bits: u8, n: usize) -> &[u8]
+    requires { n < length packed.now / 2 ^ block_bits }
+    ensures { result.now ≡ block_at block_bits packed.now n }
+{
+    let bytes = 1 << block_bits;
+    let first = n * bytes;
+    &packed[first..first + bytes]
 }

@@ -1,15 +1,14 @@
 //! The values of sound subtables.
 
-ghost use Rattle.std.specs.Prelude.{◌≡◌, ◌<◌, ◌≤◌, ◌+◌, ◌^◌, ◌*◌, IfNone, IfOk, IfSome, IsOk, IsOkAnd, Some, length, replicate, slice_get};
+ghost use Rattle.std.specs.Prelude.{◌≡◌, ◌<◌, ◌≤◌, ◌+◌, ◌^◌, ◌*◌, IfNone, IfOk, IfSome, IsOk, IsOkAnd, Some, length, slice_get};
 ghost use Rattle.szg_block.specs.Subtable.{layout_of, packed_of, IsShaped, IsShapedHead, IsSoundOver};
-ghost use Rattle.szg_block.specs.BlocksTrait.{raised, failed_after, bytes_at};
+ghost use Rattle.szg_block.specs.BlocksTrait.{bytes_at};
 ghost use Rattle.szg_block.specs.Paging.{source_of, first_of, count_of, size_of};
-ghost use Rattle.szg_block.specs.Views.{values_shown, steps_shown};
+ghost use Rattle.szg_block.specs.Views.{after_look_up, values_shown, steps_shown};
 
 use crate::Sub;
-use crate::blocks::{Blocks, SourceFault, Whole, blocks_in};
+use crate::blocks::{Blocks, SourceFault, Whole, block_of, blocks_in};
 use crate::lengths::needed_from;
-use crate::packed::block_of;
 use crate::paged::Paged;
 use crate::probing::{Steps, find_value, load_early, look_up};
 use crate::source::Source;
@@ -122,7 +121,7 @@ impl<'a> Sound<'a, Whole<'a>> {
             ..
         } = self.sub
         else {
-            fill(values, self.constant);
+            values.fill(self.constant);
             return;
         };
         let mut at = 0;
@@ -138,15 +137,6 @@ impl<'a> Sound<'a, Whole<'a>> {
     }
 }
 
-/// Makes each item of a list this value.
-fn fill(values: &mut [u16], value: u16)
-    ensures { values.new ≡ replicate (length values.old) value }
-{
-    'items: for i in 0..values.len() {
-        values[i] = value;
-    }
-}
-
 impl<'a, S: Source + Drop> Sound<'a, Paged<S>> {
     /// Creates the view of a subtable with `size` values whose blocks are read from a source. The subtable must be
     /// sound with the blocks of `blocks`. `constant` is the value that a constant subtable has at each index. Allocates
@@ -157,13 +147,7 @@ impl<'a, S: Source + Drop> Sound<'a, Paged<S>> {
         requires bytes { IfSome (layout_of sub.now) (λ layout. size_of blocks ≡ 2 ^ layout.block_bits) }
         requires there { IfSome (layout_of sub.now) (λ layout. first_of blocks + layout.blocks * 2 ^ layout.block_bits ≤ length (S.content (source_of blocks))) }
         requires sound { IsSoundOver sub.now (bytes_at (S.content (source_of blocks)) (first_of blocks) (count_of blocks * size_of blocks)) size }
-        ensures sub { result.sub ≡ sub.now }
-        ensures size { result.size ≡ size }
-        ensures constant { result.constant ≡ constant }
-        ensures packed { result.packed ≡ bytes_at (S.content (source_of blocks)) (first_of blocks) (count_of blocks * size_of blocks) }
-        ensures failures { result.failures ≡ S.failed (source_of blocks) }
-        ensures requested { result.requested ≡ S.requested (source_of blocks) }
-        ensures cost { result.cost ≡ size_of blocks }
+        ensures { result ≡ record { sub = sub.now; size = size; constant = constant; packed = bytes_at (S.content (source_of blocks)) (first_of blocks) (count_of blocks * size_of blocks); failures = S.failed (source_of blocks); requested = S.requested (source_of blocks); cost = size_of blocks } }
     {
         // for proofs alone: `blocks_in` ensures that the code is accepted, which look-ups require
         let _accepted = blocks_in(sub);
@@ -181,15 +165,7 @@ impl<'a, S: Source + Drop> Sound<'a, Paged<S>> {
         requires { i < self.old.size }
         ensures value { IfOk result (λ value. slice_get (values_shown self.old) i ≡ Some value) }
         ensures constant_returned { IfNone (layout_of self.old.sub) (IsOk result) }
-        ensures failures { self.new.failures ≡ failed_after result self.old.failures }
-        // one block is requested, and none for a constant subtable
-        ensures requested_none { IfNone (layout_of self.old.sub) (self.new.requested ≡ self.old.requested) }
-        ensures requested_one { IfSome (layout_of self.old.sub) (λ _. self.new.requested ≡ raised self.old.requested self.old.cost) }
-        ensures cost { self.new.cost ≡ self.old.cost }
-        ensures sub { self.new.sub ≡ self.old.sub }
-        ensures size { self.new.size ≡ self.old.size }
-        ensures constant { self.new.constant ≡ self.old.constant }
-        ensures packed { self.new.packed ≡ self.old.packed }
+        ensures after { self.new ≡ after_look_up result self.old }
     {
         let (value, _) = self.get_counted(i)?;
         Ok(value)
@@ -201,15 +177,7 @@ impl<'a, S: Source + Drop> Sound<'a, Paged<S>> {
         ensures value { IfOk result (λ found. slice_get (values_shown self.old) i ≡ Some found.0) }
         ensures steps { IfOk result (λ found. found.1 ≡ steps_shown self.old i) }
         ensures constant_returned { IfNone (layout_of self.old.sub) (IsOk result) }
-        ensures failures { self.new.failures ≡ failed_after result self.old.failures }
-        // one block is requested, and none for a constant subtable
-        ensures requested_none { IfNone (layout_of self.old.sub) (self.new.requested ≡ self.old.requested) }
-        ensures requested_one { IfSome (layout_of self.old.sub) (λ _. self.new.requested ≡ raised self.old.requested self.old.cost) }
-        ensures cost { self.new.cost ≡ self.old.cost }
-        ensures sub { self.new.sub ≡ self.old.sub }
-        ensures size { self.new.size ≡ self.old.size }
-        ensures constant { self.new.constant ≡ self.old.constant }
-        ensures packed { self.new.packed ≡ self.old.packed }
+        ensures after { self.new ≡ after_look_up result self.old }
     {
         look_up(self.sub, self.size, self.constant, i, &mut self.blocks)
     }

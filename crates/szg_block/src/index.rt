@@ -1,16 +1,14 @@
 //! The sparse index and the block lengths of a subtable, wherever they are.
 
-ghost use Rattle.std.specs.Prelude.{◌≡◌, ◌<◌, ◌^◌, IfSome, option_map, slice_get};
+ghost use Rattle.std.specs.Prelude.{ℕ, ◌≡◌, ◌<◌, ◌^◌, List, IfSome, map, option_map, slice_get};
+ghost use Rattle.szg_block.specs.Indexed.{entry_of};
+ghost use Rattle.szg_block.specs.Layout.{SparseEntry};
 
 use crate::Entry;
 
 /// The sparse index and the block lengths of a subtable. They may be read where they stand in a file that is mapped, and
 /// that changes: so each call says whether there is such an item, and nothing relies on what the items are.
 pub trait BlockIndex {
-    ghost use Rattle.std.specs.Prelude.{ℕ, ◌≡◌, ◌<◌, ◌^◌, List, IfSome, option_map, slice_get};
-    ghost use Rattle.szg_block.specs.Indexed.{entry_of};
-    ghost use Rattle.szg_block.specs.Layout.{SparseEntry};
-
     // the entries of the sparse index
     ghost sparse: { Self → List SparseEntry };
 
@@ -35,9 +33,6 @@ pub(crate) struct IndexLists<'a> {
 }
 
 impl<'a> BlockIndex for IndexLists<'a> {
-    ghost use Rattle.std.specs.Prelude.{map};
-    ghost use Rattle.szg_block.specs.Indexed.{entry_of};
-
     ghost sparse = { λ x. map entry_of x.sparse.now };
 
     ghost lengths = { λ x. x.lengths.now };

@@ -7,39 +7,35 @@
 //! where the subtable ends within it.
 #![tactic(auto)]
 
-ghost use Rattle.std.specs.Prelude.{ℕ, Bool, ◌≡◌, ◌+◌, ◌<◌, ◌≤◌, ◌↔◌, ◌^◌, ◌/◌, ◌%◌, Err, List, IsTrue, IfErr, IfNone, IfSome, IsSomeAnd, OnOk, length};
-ghost use Rattle.szg_block.specs.Block.{needed, start};
+ghost use Rattle.std.specs.Prelude.{ℕ, Bool, ◌≡◌, ◌+◌, ◌++◌, ◌<◌, ◌≤◌, ◌↔◌, ◌^◌, Err, List, IsTrue, IfErr, IfSome, IsSomeAnd, OnOk, length, take};
+ghost use Rattle.szg_block.specs.Block.{block_values, needed, start};
 ghost use Rattle.szg_block.specs.Kept.{with_lengths, IsKeptOf};
 ghost use Rattle.szg_block.specs.Sound.{HasGoodEntry, HasTotal, SpellsNeeded, entry_count as entry_count_of};
 ghost use Rattle.szg_block.specs.Subtable.{layout_of, packed_of, IsHeaded, IsIndexed, IsLayoutFault, IsShaped, IsShapedHead, IsSoundOver, HasSoundIndex, IsFaultOf, IsIndexFault};
 ghost use Rattle.szg_block.specs.Views.{IsSound};
 
 pub use block_value::{checked_value, value_in_block};
-pub use blocks::{Blocks, SourceFault, Whole};
-pub use decoding::decode_block;
+pub use blocks::{Blocks, SourceFault, Whole, block_count, block_of};
 pub use expanding::Sound;
 pub use index::BlockIndex;
 use lengths::total;
 pub use lengths::{needed_from, values_in};
-use packed::first_bad_block;
-pub use packed::{block_count, block_of};
 pub use paged::Paged;
 pub use probing::{Steps, ValueLocation, locate_by, locate_value, look_up};
 pub use source::{Image, Source};
 use sparse::{first_bad_entry, middle_of_span};
+use std::alloc::AllocError;
 use szg_code::Code;
 use szg_pairs::Dict;
 pub use watch::Watch;
-use words::spells;
+use words::{push_values, spells};
 
 mod block_value;
 mod blocks;
-mod decoding;
 mod expanding;
 mod index;
 pub mod laws;
 mod lengths;
-mod packed;
 mod paged;
 mod probing;
 mod source;
@@ -114,20 +110,6 @@ const MAX_BLOCK_BITS: u8 = 18;
 /// The greatest span bits: a span has 2^31 values at most.
 const MAX_SPAN_BITS: u8 = 31;
 
-/// Returns whether a flags byte is that of a constant subtable.
-fn is_constant(flags: u8) -> bool
-    ensures { IsTrue result ↔ (flags / 128 % 2 ≡ 1) }
-{
-    flags >= CONSTANT
-}
-
-/// Returns whether block bits and span bits are in their ranges.
-fn bits_fit(block_bits: u8, span_bits: u8) -> bool
-    ensures { IsTrue result ↔ ((block_bits ≤ 18) × (1 ≤ span_bits) × (span_bits ≤ 31)) }
-{
-    block_bits <= MAX_BLOCK_BITS && (1..=MAX_SPAN_BITS).contains(&span_bits)
-}
-
 /// Returns the number of entries of the sparse index of a subtable with `size` values: one for each span of
 /// `2^span_bits` values that begins below `size`. There are no more entries than values. `span_bits` is at most 31.
 pub fn entry_count(size: u64, span_bits: u8) -> u64
@@ -146,21 +128,22 @@ pub fn shaped_head(sub: &Sub, size: u64) -> bool
     ensures { IsTrue result ↔ IsShapedHead sub.now size }
 {
     match sub {
-        Sub::Constant { flags, .. } => is_constant(*flags),
+        Sub::Constant { flags, .. } => *flags >= CONSTANT,
         Sub::Pairs {
             flags,
             block_bits,
             span_bits,
-            extra,
-            blocks,
             code,
             dict,
             sparse,
             lengths,
+            blocks,
+            extra,
             ..
         } => {
-            !is_constant(*flags)
-                && bits_fit(*block_bits, *span_bits)
+            *flags < CONSTANT
+                && *block_bits <= MAX_BLOCK_BITS
+                && (1..=MAX_SPAN_BITS).contains(span_bits)
                 && code.symbols() == dict.symbols()
                 && sparse.len() as u64 == entry_count(size, *span_bits)
                 && lengths.len() == *blocks as usize + usize::from(*extra)
@@ -331,6 +314,31 @@ pub fn check_block_from(
     }
 }
 
+/// Decodes block `n` of a subtable with `size` values, and appends the values that the block needs to `values`. `block`
+/// has the block's bytes, which passed `check_block`; `before` is the number of values before the block. A missing length
+/// counts as 0. Errors: memory was refused.
+pub fn decode_block(
+    sub: &Sub,
+    size: u64,
+    n: u32,
+    before: u64,
+    block: &[u8],
+    values: &mut Vec<u16>,
+) -> Result<(), AllocError>
+    requires head { IsHeaded sub.now }
+    requires before { IsSomeAnd (layout_of sub.now) (λ layout. before ≡ start layout.lengths n) }
+    requires whole { IsSomeAnd (layout_of sub.now) (λ layout. length block.now ≡ 2 ^ layout.block_bits) }
+    requires spelled { IsSomeAnd (layout_of sub.now) (λ layout. SpellsNeeded layout size n block.now) }
+    ensures { OnOk result (IfSome (layout_of sub.now) (λ layout. values.new.items ≡ values.old.items ++ take (needed layout.lengths size n) (block_values layout block.now))) }
+{
+    let Sub::Pairs { code, dict, .. } = sub else {
+        unreachable!()
+    };
+    prove_eq!(code.symbols(), dict.symbols());
+    let needed = needed_in(sub, size, n, before);
+    Ok(push_values(code, dict, block, needed, values)?)
+}
+
 /// Checks a subtable with `size` values. Accepts exactly the sound subtables.
 ///
 /// Errors: those of `check_index`, then those of `check_block` for each block in order.
@@ -354,8 +362,11 @@ pub fn check(sub: &Sub, size: u64) -> Result<(), SubFault>
         return Ok(());
     };
     prove_eq!(code.symbols(), dict.symbols());
-    match first_bad_block(code, dict, lengths, size, packed, *block_bits, *blocks) {
-        Some(n) => Err(SubFault::Word(n)),
-        None => Ok(()),
+    let mut before = 0;
+    for n in 0..*blocks {
+        let block = block_of(packed, *block_bits, n as usize);
+        check_block_from(sub, size, n, before, block)?;
+        before += u64::from(lengths[n as usize]) + 1;
     }
+    Ok(())
 }

@@ -8,10 +8,12 @@ ghost use Rattle.szg_pairs.specs.Expansion.{expansion_of};
 ghost use Rattle.szg_code.specs.Cursor.{TakesWords};
 ghost use Rattle.szg_code.specs.NextWords.{symbols_of};
 ghost use Rattle.szg_code.specs.Spelling.{BeginsWithNoWord};
-ghost use Rattle.szg_block.specs.Spelled.{AreSymbols, values_of, values_spelled, word_at, pairs_above};
+ghost use Rattle.szg_block.specs.Spelled.{AreBelow, values_of, values_spelled, word_at, pairs_above};
 
 use std::alloc::AllocError;
-use szg_code::{Bits, Code, NextWords, next_word, next_word_if, next_words};
+use szg_code::{
+    Bits, Code, EndlessBits, NextWords, next_endless, next_word, next_word_if, next_words,
+};
 use szg_pairs::Dict;
 use szg_pairs::entry::{is_leaf, left, right};
 
@@ -28,7 +30,7 @@ pub fn spells(code: &Code, dict: &Dict, block: &[u8], needed: u64) -> bool
 /// Returns the number of values of one or two words.
 #[inline(always)]
 fn count_of(dict: &Dict, words: NextWords) -> u64
-    requires { AreSymbols dict.now (symbols_of words) }
+    requires { AreBelow (length dict.now) (symbols_of words) }
     ensures number { result ≡ length (values_of dict.now (symbols_of words)) }
     ensures some { 1 ≤ result }
     ensures few { result ≤ 512 }
@@ -42,7 +44,7 @@ fn count_of(dict: &Dict, words: NextWords) -> u64
 /// Returns the value at `index` among the values of one or two words.
 #[inline(always)]
 fn value_in(dict: &Dict, words: NextWords, index: u16) -> u16
-    requires there { AreSymbols dict.now (symbols_of words) }
+    requires there { AreBelow (length dict.now) (symbols_of words) }
     requires within { index < length (values_of dict.now (symbols_of words)) }
     ensures { slice_get (values_of dict.now (symbols_of words)) index ≡ Some result }
 {
@@ -72,22 +74,32 @@ struct Reached<'a> {
 }
 
 /// Decodes one word, or if `TWO`, one or two; moves the reader past what it decoded, and returns the symbols. None if the
-/// bits left do not begin with a word. A word's length is found as `next_word_if` does.
+/// bits left do not begin with a word. A single word is decoded as `next_endless` does.
 #[inline(always)]
-fn step<const TWO: bool, const TABLE: bool>(code: &Code, words: &mut Bits) -> Option<NextWords>
-    ensures found { IfSome result (λ taken. TakesWords code.now words.old words.new (symbols_of taken)) }
-    ensures none { IfNone result (BeginsWithNoWord code.now words.old.left) }
+fn step<const TWO: bool, const TABLE: bool>(
+    code: &Code,
+    words: &mut EndlessBits,
+) -> Option<NextWords>
+    requires accepted { IsCode code.now }
+    ensures there { IfSome result (λ taken. AreBelow code.now.symbols (symbols_of taken)) }
+    ensures found { IfSome result (λ taken. words.new.past ≡ 0 → (words.old.past ≡ 0) × TakesWords code.now words.old.cursor words.new.cursor (symbols_of taken)) }
+    ensures past { IfSome result (λ _. 0 < words.new.past → BeginsWithNoWord code.now words.old.cursor.left) }
+    ensures none { IfNone result (BeginsWithNoWord code.now words.old.cursor.left) }
 {
     if TWO {
-        return next_words(code, words);
+        let mut bits = words.copied().within()?;
+        let taken = next_words(code, &mut bits)?;
+        *words = bits.endless();
+        return Some(taken);
     }
-    match next_word_if::<TABLE>(code, words) {
+    match next_endless::<TABLE>(code, words) {
         Some(symbol) => Some(NextWords::One(symbol)),
         None => None,
     }
 }
 
-/// Decodes words up to those that contain the value at `index`. None if the bits left spell too few values.
+/// Decodes words up to those that contain the value at `index`. None if the bits left spell too few values. Whether the last
+/// word is within the bytes is asked once, after it.
 #[inline(always)]
 fn reach_by<'a, const TWO: bool, const TABLE: bool>(
     code: &Code,
@@ -97,7 +109,7 @@ fn reach_by<'a, const TWO: bool, const TABLE: bool>(
 ) -> Option<Reached<'a>>
     requires accepted { IsCode code.now }
     requires symbols { code.now.symbols ≡ length dict.now }
-    ensures there { IfSome result (λ reached. AreSymbols dict.now (symbols_of reached.words)) }
+    ensures there { IfSome result (λ reached. AreBelow (length dict.now) (symbols_of reached.words)) }
     ensures count { IfSome result (λ reached. reached.count ≡ length (values_of dict.now (symbols_of reached.words))) }
     ensures few { IfSome result (λ reached. reached.count ≤ 512) }
     ensures within { IfSome result (λ reached. reached.index < reached.count) }
@@ -106,11 +118,12 @@ fn reach_by<'a, const TWO: bool, const TABLE: bool>(
     ensures spelled { IfSome result (λ reached. length (values_spelled code.now dict.now left.entry.left) ≡ (index - reached.index) + reached.count + length (values_spelled code.now dict.now reached.left.left)) }
     ensures none { IfNone result (length (values_spelled code.now dict.now left.entry.left) ≤ index) }
 {
-    let mut left = left;
+    let mut left = left.endless();
     let mut ahead = index;
     while let Some(words) = step::<TWO, TABLE>(code, &mut left) {
         let count = count_of(dict, words);
         if ahead < count {
+            let left = left.within()?;
             return Some(Reached {
                 words,
                 count,
@@ -128,7 +141,7 @@ fn reach_by<'a, const TWO: bool, const TABLE: bool>(
 fn reach<'a>(code: &Code, dict: &Dict, left: Bits<'a>, index: u64) -> Option<Reached<'a>>
     requires accepted { IsCode code.now }
     requires symbols { code.now.symbols ≡ length dict.now }
-    ensures there { IfSome result (λ reached. AreSymbols dict.now (symbols_of reached.words)) }
+    ensures there { IfSome result (λ reached. AreBelow (length dict.now) (symbols_of reached.words)) }
     ensures count { IfSome result (λ reached. reached.count ≡ length (values_of dict.now (symbols_of reached.words))) }
     ensures few { IfSome result (λ reached. reached.count ≤ 512) }
     ensures within { IfSome result (λ reached. reached.index < reached.count) }

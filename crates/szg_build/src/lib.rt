@@ -12,7 +12,6 @@ mod reading;
 mod refusing;
 mod subtables;
 mod table;
-mod typed;
 mod writing;
 
 ghost use Rattle.std.specs.Prelude.{◌≡◌};
@@ -30,7 +29,7 @@ use thiserror::Error;
 pub use writing::block_values::BlockValues;
 pub use writing::dumping::{StreamFault, stream_dump};
 pub use writing::stored::{StoredValues, stored_values};
-pub use writing::table_dump::{DumpWriteFault, dump_table};
+pub use writing::table_dump::dump_table;
 pub use writing::write_dump;
 
 /// What a table is built from, besides its values.

@@ -13,7 +13,7 @@ mod subreading;
 mod values;
 mod word;
 
-ghost use Rattle.std.specs.Prelude.{◌≡◌, ◌+◌, ◌<◌, ◌≤◌, ◌^◌, [], ◌∷◌, ◌++◌, length, map, option_map, IsErrOf, OnOk};
+ghost use Rattle.std.specs.Prelude.{◌+◌, ◌<◌, ◌≤◌, ◌^◌, [], ◌∷◌, length, map, option_map, IsErrOf, OnOk};
 ghost use Rattle.szg_file.specs.Contents.{has_bit, part_numbers};
 ghost use Rattle.szg_file.specs.Held.{map_of, part_of};
 ghost use Rattle.szg_build.specs.Grammar.{each, list_numbers, map_list, map_of as map_text, part_line, value, values_lines, repeated, number_line, run_values};
@@ -29,7 +29,6 @@ use crate::reading::incoming::Incoming;
 use crate::reading::line_parsing::{GREATEST_COUNT, parse_part};
 use crate::reading::lines::{read_number, read_parsed, read_run};
 use crate::reading::values::Values;
-use std::alloc::{AllocError, Global};
 use szg_file::{Map, PartBytes, has_bit, part_count};
 use szg_io::Input;
 use szg_values::Material;
@@ -38,7 +37,6 @@ use szg_values::Material;
 
 /// Reads `count` items, one a line.
 fn read_items<T: Item, R: Input>(
-    alloc: Global,
     count: u64,
     following: u64,
     input: &mut R,
@@ -50,7 +48,7 @@ fn read_items<T: Item, R: Input>(
     ensures following { OnOk result (length (held_of incoming.new) ≤ following) }
     ensures memory { IsErrOf result DumpReadFault.Memory → LacksLines (repeated count (number_line (value ∷ []) T.GREATEST)) following incoming.old R.Input input.old input.new }
 {
-    let mut list = Vec::new(alloc);
+    let mut list = Vec::new(incoming.alloc);
     'items: for i in 0..count {
         let left = count - 1 - i;
         let number = read_number(b"", T::GREATEST, following + left, input, incoming)?;
@@ -61,7 +59,6 @@ fn read_items<T: Item, R: Input>(
 
 /// Reads runs, one a line, until there are `count` values.
 fn read_runs<R: Input>(
-    alloc: Global,
     count: u64,
     following: u64,
     input: &mut R,
@@ -76,7 +73,7 @@ fn read_runs<R: Input>(
     let mut left = count;
     'runs: while left > 0 {
         let (size, value) = read_run(left, following, input, incoming)?;
-        values = values.with_run(alloc, size, value)?;
+        values = values.with_run(incoming.alloc, size, value)?;
         left -= size;
     }
     Ok(values)
@@ -84,7 +81,6 @@ fn read_runs<R: Input>(
 
 /// Reads the `count` values of a subtable in form `form`.
 pub(crate) fn read_values<R: Input>(
-    alloc: Global,
     form: u8,
     count: u64,
     following: u64,
@@ -98,9 +94,9 @@ pub(crate) fn read_values<R: Input>(
     ensures memory { IsErrOf result DumpReadFault.Memory → LacksLines (values_lines (form_of form) count) following incoming.old R.Input input.old input.new }
 {
     if form == 2 {
-        return read_runs(alloc, count, following, input, incoming);
+        return read_runs(count, following, input, incoming);
     }
-    let list = read_items(alloc, count, following, input, incoming)?;
+    let list = read_items(count, following, input, incoming)?;
     Ok(Values::Listed(list))
 }
 
@@ -108,7 +104,6 @@ pub(crate) fn read_values<R: Input>(
 
 /// Reads list `j` of a map.
 fn read_list<T: Item, R: Input>(
-    alloc: Global,
     j: u8,
     following: u64,
     input: &mut R,
@@ -123,12 +118,11 @@ fn read_list<T: Item, R: Input>(
 {
     let front = [b'm', b'a', b'p', b' ', b'0' + j, b' '];
     let count = read_number(&front, GREATEST_COUNT, following, input, incoming)?;
-    read_items(alloc, count, following, input, incoming)
+    read_items(count, following, input, incoming)
 }
 
 /// Reads the four lists of a map.
 fn read_lists<T: Item, R: Input>(
-    alloc: Global,
     following: u64,
     input: &mut R,
     incoming: &mut Incoming,
@@ -139,16 +133,15 @@ fn read_lists<T: Item, R: Input>(
     ensures following { OnOk result (length (held_of incoming.new) ≤ following) }
     ensures memory { IsErrOf result DumpReadFault.Memory → LacksLines (each (map_list T.GREATEST) list_numbers) following incoming.old R.Input input.old input.new }
 {
-    let wins = read_list(alloc, 0, following + 3, input, incoming)?;
-    let losses = read_list(alloc, 1, following + 2, input, incoming)?;
-    let cursed_wins = read_list(alloc, 2, following + 1, input, incoming)?;
-    let blessed_losses = read_list(alloc, 3, following, input, incoming)?;
+    let wins = read_list(0, following + 3, input, incoming)?;
+    let losses = read_list(1, following + 2, input, incoming)?;
+    let cursed_wins = read_list(2, following + 1, input, incoming)?;
+    let blessed_losses = read_list(3, following, input, incoming)?;
     Ok([wins, losses, cursed_wins, blessed_losses])
 }
 
 /// Reads the map that the flags require. None if they require none.
 pub(crate) fn read_map<R: Input>(
-    alloc: Global,
     flags: u8,
     following: u64,
     input: &mut R,
@@ -164,10 +157,10 @@ pub(crate) fn read_map<R: Input>(
         return Ok(None);
     }
     if has_bit(4, flags) {
-        let wide = read_lists(alloc, following, input, incoming)?;
+        let wide = read_lists(following, input, incoming)?;
         return Ok(Some(Map::Wide(wide)));
     }
-    let narrow = read_lists(alloc, following, input, incoming)?;
+    let narrow = read_lists(following, input, incoming)?;
     Ok(Some(Map::Bytes(narrow)))
 }
 
@@ -175,7 +168,6 @@ pub(crate) fn read_map<R: Input>(
 
 /// Reads a part.
 fn read_part_bytes<R: Input>(
-    alloc: Global,
     number: u8,
     following: u64,
     input: &mut R,
@@ -188,14 +180,13 @@ fn read_part_bytes<R: Input>(
     ensures memory { IsErrOf result DumpReadFault.Memory → LacksLines (part_line number) following incoming.old R.Input input.old input.new }
 {
     let (order, men) = read_parsed(|text| parse_part(number, text), following, input, incoming)?;
-    let order = Vec::from_slice(alloc, order.as_slice())?;
-    let men = Vec::from_slice(alloc, men.as_slice())?;
+    let order = Vec::from_slice(incoming.alloc, order.as_slice())?;
+    let men = Vec::from_slice(incoming.alloc, men.as_slice())?;
     Ok(PartBytes { order, men })
 }
 
 /// Reads the parts of a material.
 pub(crate) fn read_parts<R: Input>(
-    alloc: Global,
     material: &Material,
     following: u64,
     input: &mut R,
@@ -207,11 +198,11 @@ pub(crate) fn read_parts<R: Input>(
     ensures following { OnOk result (length (held_of incoming.new) ≤ following) }
     ensures memory { IsErrOf result DumpReadFault.Memory → LacksLines (each part_line (part_numbers material.now)) following incoming.old R.Input input.old input.new }
 {
-    let mut parts = Vec::new(alloc);
+    let mut parts = Vec::new(incoming.alloc);
     let count = part_count(material);
     'parts: for number in 0..count {
         let left = u64::from(count - 1 - number);
-        let part = read_part_bytes(alloc, number, following + left, input, incoming)?;
+        let part = read_part_bytes(number, following + left, input, incoming)?;
         parts.push(part)?;
     }
     Ok(parts)

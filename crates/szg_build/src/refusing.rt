@@ -1,5 +1,5 @@
 //! The checks of a plan and its lists that come after the check of its parts.
-ghost use Rattle.std.specs.Prelude.{◌≡◌, ◌==◌, ◌&&◌, nat_lt, nat_le, map, option_map, Some};
+ghost use Rattle.std.specs.Prelude.{◌≡◌, ◌&&◌, nat_lt, nat_le, map, option_map, Some};
 ghost use Rattle.std.specs.List.{list_any};
 ghost use Rattle.szg_file.specs.Contents.{has_bit};
 ghost use Rattle.szg_file.specs.Held.{map_of};

@@ -9,9 +9,9 @@ ghost use Rattle.szg_build.specs.Plan.{greatest_value};
 ghost use Rattle.szg_build.specs.Rule.{constant_for};
 ghost use Rattle.szg_build.specs.Tabling.{IsBuiltSub};
 
-use crate::typed::sub_fits;
 use std::alloc::{AllocError, Global};
 use szg_block::Sub;
+use szg_file::typed::sub_fits;
 use szg_subtable::{Choice, Watcher, pack};
 use szg_values::Kind;
 

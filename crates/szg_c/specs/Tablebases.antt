@@ -54,10 +54,7 @@ missing_status (reason.Block number offset) = BAD_BLOCK
 -- the number and offset of a block that does not decode; else they stay
 abbrev pub IsBlockWritten : MissingReason → RawMissing → RawMissing → Type 0
 IsBlockWritten (reason.Block number offset) before after = (after.block ≡ number) × (after.offset ≡ offset)
-IsBlockWritten reason.Table before after = (after.block ≡ before.block) × (after.offset ≡ before.offset)
-IsBlockWritten (reason.Place why) before after = (after.block ≡ before.block) × (after.offset ≡ before.offset)
-IsBlockWritten reason.Value before after = (after.block ≡ before.block) × (after.offset ≡ before.offset)
-IsBlockWritten (reason.Unread spot) before after = (after.block ≡ before.block) × (after.offset ≡ before.offset)
+IsBlockWritten other before after = (after.block ≡ before.block) × (after.offset ≡ before.offset)
 
 -- the status says what is missing, and the table is named
 pub record IsMissingReported (missing : Missing) (status : ℕ) (before after : RawMissing) : Type 0 where

@@ -36,7 +36,7 @@ pub extern "C" fn szg_tablebase_wdl_of_fens(
 
 /// Writes the classes of the first lines' positions by a set of tables, or `NO_RESULT`; returns the first status other than
 /// `DONE`.
-fn classes_in(set: &mut MappedSet<'static>, fens: &[u8], classes: &mut [i8]) -> u32
+fn classes_in(set: &mut MappedSet<'_>, fens: &[u8], classes: &mut [i8]) -> u32
     ensures kept { set.new ≡ set.old }
     ensures probed { AreProbed set.old fens.now classes.new (length classes.old) result }
 {
@@ -54,7 +54,7 @@ fn classes_in(set: &mut MappedSet<'static>, fens: &[u8], classes: &mut [i8]) -> 
 }
 
 /// Writes the class of the position that a line names by a set of tables, or `NO_RESULT`; returns the status.
-fn class_of_line(set: &mut MappedSet<'static>, line: &[u8], class: &mut i8) -> u32
+fn class_of_line(set: &mut MappedSet<'_>, line: &[u8], class: &mut i8) -> u32
     ensures kept { set.new ≡ set.old }
     ensures probed { IsProbed set.old line.now result class.new }
 {

@@ -12,7 +12,7 @@ use crate::handle::{put, take};
 use crate::held_front::HeldFront;
 use std::alloc::Global;
 use szg_c_positions::status::{BAD_BLOCK, CHANGED, CLOSED, DONE, RANGE};
-use szg_file::{ByteRange, FrontTable};
+use szg_file::FrontTable;
 use szg_place::Spot;
 
 /// A byte range of a file.
@@ -25,23 +25,7 @@ pub struct RawByteRange {
     pub count: u64,
 }
 
-/// Converts a byte range for C; none becomes offset 0 and count 0.
-fn raw_range(found: Option<ByteRange>) -> RawByteRange
-    ensures { MatchOption found ((result.offset ≡ 0) × (result.count ≡ 0)) (λ wanted. (result.offset ≡ wanted.offset) × (result.count ≡ wanted.count)) }
-{
-    match found {
-        Some(wanted) => RawByteRange {
-            offset: wanted.offset,
-            count: wanted.count,
-        },
-        None => RawByteRange {
-            offset: 0,
-            count: 0,
-        },
-    }
-}
-
-/// Finds the byte range that a value needs, if the table has its index.
+/// Finds the byte range that a value needs, if the table has its index; offset and count are 0 if it needs none.
 fn find_in(table: &FrontTable, spot: Spot, range: &mut RawByteRange) -> u32
     ensures statuses { MatchOption (with_slot (slot_in table.now.index spot.part spot.side) spot.index) (result ≡ RANGE) (λ slot. result ≡ DONE) }
     ensures found { (content : List ℕ) → IsFrontOf table.now content → IfSome (with_slot (slot_in table.now.index spot.part spot.side) spot.index) (λ slot. IsFoundRange table.now content spot.part spot.side spot.index range.new) }
@@ -51,8 +35,16 @@ fn find_in(table: &FrontTable, spot: Spot, range: &mut RawByteRange) -> u32
     if !has_index(table.index(), spot) {
         return RANGE;
     }
-    *range = raw_range(table.locate(spot.part, spot.side, spot.index).range());
-    DONE
+    match table.locate(spot.part, spot.side, spot.index).range() {
+        Some(wanted) => {
+            (range.offset, range.count) = (wanted.offset, wanted.count);
+            DONE
+        }
+        None => {
+            (range.offset, range.count) = (0, 0);
+            DONE
+        }
+    }
 }
 
 /// Finds the byte range of the file that the value at an index needs: that of one block. In a constant subtable the
@@ -76,10 +68,10 @@ pub extern "C" fn szg_front_find(
     ensures inside { IfSome front.old.value (λ f. (result ≡ DONE) → range.new.offset + range.new.count ≤ f.length) }
     ensures stays { (result ≡ DONE → ⊥) → range.new ≡ range.old }
 {
+    let spot = Spot { part, side, index };
     let Some(held) = take(front, alloc) else {
         return CLOSED;
     };
-    let spot = Spot { part, side, index };
     let status = find_in(held.value(), spot, range);
     put(front, held);
     status

@@ -4,7 +4,7 @@ ghost use Rattle.std.specs.declared.option.Option.TheVariants.{None, Some};
 ghost use Rattle.szg_file.specs.FrontTable.{IsFrontOf};
 ghost use Rattle.szg_file.specs.Index.{slot_in};
 ghost use Rattle.szg_file.specs.Unread.{unread_file};
-ghost use Rattle.szg_c.specs.Fronts.{FetchReported, IsFront, IsGot, ReportsFront, greatest_span_bits, span_bits_of};
+ghost use Rattle.szg_c.specs.Fronts.{FetchReported, IsFront, IsGot, ReportsFront, greatest_span_bits};
 ghost use Rattle.szg_c.specs.Places.{with_slot};
 ghost use Rattle.szg_c.specs.Reported.{Stops};
 
@@ -126,23 +126,17 @@ pub extern "C" fn szg_front_size(
     with_held(alloc, front, &mut look)
 }
 
-/// The span bits of a subtable, 0 of a constant one.
-fn span_bits_of(sub: &Sub) -> u8
-    ensures { result ≡ span_bits_of sub.now }
-{
-    match sub {
-        Sub::Constant { .. } => 0,
-        Sub::Pairs { span_bits, .. } => *span_bits,
-    }
-}
-
 /// The greatest span bits of subtables, 0 if all are constant.
 fn greatest_span_bits(subs: &[PlacedSub]) -> u8
     ensures { result ≡ greatest_span_bits subs.now }
 {
     let mut greatest = 0;
     'subtables: for placed in subs {
-        greatest = greatest.max(span_bits_of(&placed.sub));
+        let bits = match &placed.sub {
+            Sub::Constant { .. } => 0,
+            Sub::Pairs { span_bits, .. } => *span_bits,
+        };
+        greatest = greatest.max(bits);
     }
     greatest
 }

@@ -3,11 +3,11 @@ ghost use Rattle.std.specs.Prelude.{◌≡◌, ◌≢◌, Ok, MatchOption, IfOk,
 ghost use Rattle.szg_values.specs.Material.{parsed};
 ghost use Rattle.szg_file.specs.File.{file};
 ghost use Rattle.szg_file.specs.declared.fault.ReadFault.TheVariants.{Device};
-ghost use Rattle.szg_c.specs.Reported.{kind_of_flag, IsFaultStatus, IsNoName, IsTable, Stops, number_of as reason_number};
+ghost use Rattle.szg_c.specs.Reported.{kind_of_flag, IsFaultStatus, IsNoName, IsTable, Stops};
 
 use std::alloc::Global;
 use szg_c_positions::status::{MEMORY, NAME, REFUSED};
-use szg_file::{ReadFault, Reason, Table, read_bytes};
+use szg_file::{ReadFault, Table, read_bytes};
 use szg_values::{Kind, Material};
 
 /// What a call returns with its status.
@@ -45,7 +45,7 @@ pub(crate) fn fault_status(fault: ReadFault, answer: &mut RawAnswer) -> u32
     match fault {
         ReadFault::Refused { place, reason } => {
             answer.place = place;
-            answer.reason = number_of(reason);
+            answer.reason = reason as u32;
             REFUSED
         }
         ReadFault::Memory => MEMORY,
@@ -72,31 +72,5 @@ pub(crate) fn open(
     match read_bytes(alloc, material, kind_of(dtz), bytes) {
         Ok(table) => Ok(table),
         Err(fault) => Err(fault_status(fault, answer)),
-    }
-}
-
-/// Returns the number of a reason.
-fn number_of(reason: Reason) -> u32
-    ensures { result ≡ reason_number reason }
-{
-    match reason {
-        Reason::Truncated => 1,
-        Reason::Magic => 2,
-        Reason::SplitBit => 3,
-        Reason::PawnBit => 4,
-        Reason::Pieces => 5,
-        Reason::PawnsFirst => 6,
-        Reason::OrderPlace => 7,
-        Reason::BlockBits => 8,
-        Reason::SpanBits => 9,
-        Reason::CodeLengths => 10,
-        Reason::LowestOrder => 11,
-        Reason::TooFull => 12,
-        Reason::Child => 13,
-        Reason::Cycle => 14,
-        Reason::LongSymbol => 15,
-        Reason::ShortTotal => 16,
-        Reason::SparseEntry => 17,
-        Reason::Word => 18,
     }
 }

@@ -3,7 +3,7 @@ ghost use Rattle.std.specs.Prelude.{◌≡◌, Ok, IfSome, MatchResult};
 ghost use Rattle.std.specs.declared.option.Option.TheVariants.{None, Some};
 ghost use Rattle.szg_file.specs.Index.{index_of};
 ghost use Rattle.szg_c_positions.specs.Men.{board_of};
-ghost use Rattle.szg_c.specs.Outcomes.{IsOutcome, IsOutcomeOfMen, class_or_status, distance_or_status, fault_or_status};
+ghost use Rattle.szg_c.specs.Outcomes.{IsOutcome, IsOutcomeOfMen, fault_or_status};
 ghost use Rattle.szg_c.specs.Places.{IsSpot, is_class, map_status as map_fault_status, outcome_result, place_status as place_fault_status, spot_result};
 
 use crate::handle::with_held;
@@ -193,34 +193,20 @@ fn outcome_of<V: Values + Drop>(
     ensures { IsOutcome (V.index_in values).kind (V.index_in values) (V.is_value values) (V.is_fault values) class placement.now result }
 {
     match values.index().kind() {
-        Kind::Wdl => class_or_status(probe_class(values, placement)),
+        Kind::Wdl => match probe_class(values, placement) {
+            Ok(Some(class)) => Ok(i64::from(class)),
+            Ok(None) => Err(Unfound::Status(NO_CLASS)),
+            Err(fault) => Err(fault_or_status(fault)),
+        },
         Kind::Dtz => {
             if !is_class(class) {
                 return Err(Unfound::Status(RANGE));
             }
-            distance_or_status(probe_number(values, placement, class))
+            match probe_number(values, placement, class) {
+                Ok(number) => Ok(i64::from(number)),
+                Err(fault) => Err(fault_or_status(fault)),
+            }
         }
-    }
-}
-
-#[inline(always)]
-fn class_or_status<F>(reported: Result<Option<i8>, Unprobed<F>>) -> Result<i64, Unfound<F>>
-    ensures { result ≡ class_or_status reported }
-{
-    match reported {
-        Ok(Some(class)) => Ok(i64::from(class)),
-        Ok(None) => Err(Unfound::Status(NO_CLASS)),
-        Err(fault) => Err(fault_or_status(fault)),
-    }
-}
-
-#[inline(always)]
-fn distance_or_status<F>(reported: Result<u32, Unprobed<F>>) -> Result<i64, Unfound<F>>
-    ensures { result ≡ distance_or_status reported }
-{
-    match reported {
-        Ok(number) => Ok(i64::from(number)),
-        Err(fault) => Err(fault_or_status(fault)),
     }
 }
 

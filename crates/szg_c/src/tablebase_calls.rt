@@ -1,10 +1,12 @@
 //! Calls on a tablebase: tables are added by their bytes, and positions are probed with their captures, the right to
 //! capture en passant and the fifty-move counter.
-ghost use Rattle.std.specs.Prelude.{◌≡◌, ◌≤◌, ◌⊎◌, ◌++◌, [], Err, IfErr, IfNone, IfOk, IfSome, MatchResult, Ok, drop, length, map};
-ghost use Rattle.std.specs.declared.option.Option.TheVariants.{None, Some};
+ghost use Rattle.std.specs.Prelude.{◌≡◌, ◌≤◌, ◌⊎◌, ◌++◌, [], IfSome, List, MatchResult, drop, length, map};
+ghost use Rattle.std.specs.Fn.{CalledAtMut};
+ghost use Rattle.std.specs.declared.option.Option.TheVariants.{None};
 ghost use Rattle.szg_file.specs.Unread.{unread_file};
+ghost use Rattle.szg_mapped.specs.InPlace.{InPlace};
 ghost use Rattle.szg_c.specs.Reported.{Stops};
-ghost use Rattle.szg_c.specs.Tablebases.{IsAdded, IsClassProbed, IsDistanceProbed, IsMissingReported, IsRankedWritten, IsTableOf, files_of, promotion_code, raw_move};
+ghost use Rattle.szg_c.specs.Tablebases.{IsAdded, IsClassProbed, IsDistanceProbed, IsMissingReported, IsRankedWritten, files_of, raw_move};
 ghost use Rattle.szg_c_positions.specs.Positions.{position_of};
 
 use crate::handle::{put, share, shut, take};
@@ -12,6 +14,7 @@ use crate::held_tablebase::HeldTablebase;
 use crate::opening::{RawAnswer, fault_status, kind_of, material_of};
 use crate::places::place_status;
 use crate::texts::print;
+use arrayvec::ArrayVec;
 use std::alloc::Global;
 use szg_c_positions::status::{
     BAD_BLOCK, CHANGED, CONTRADICTION, DONE, EN_PASSANT, IN_CHECK, MAN, MEMORY, MEN, MISSING, NAME,
@@ -21,7 +24,7 @@ use szg_c_positions::{RawMan, position_of};
 use szg_chess::Position;
 use szg_probe::{DistanceFault, RankedMove, probe_dtz, probe_wdl, rank_moves};
 use szg_tables::{MappedSet, MappedTable, Missing, MissingReason, number_of_class};
-use szg_values::{Kind, Man};
+use szg_values::Kind;
 
 /// What a tablebase does not have for a position.
 #[repr(C)]
@@ -69,40 +72,14 @@ pub struct RawMove {
     pub stalemate: bool,
 }
 
-/// Opens the table of this name and kind whose file the bytes are.
-fn opened(
-    alloc: Global,
-    name: &[u8],
-    dtz: bool,
-    bytes: &'static [u8],
-    answer: &mut RawAnswer,
-) -> Result<MappedTable<'static>, u32>
-    ensures front { IfOk result (IsTableOf name.now dtz bytes.now) }
-    ensures stops { IfErr result (λ status. Stops unread_file name.now dtz bytes.now status answer.new.place answer.new.reason) }
-    ensures stays { IfErr result (λ status. (status ≡ 2 → ⊥) → answer.new ≡ answer.old) }
-    ensures kept { IfOk result (λ t. answer.new ≡ answer.old) }
+/// Calls a function with no tables; returns its status. It is a function of its own, so that only it has room for a set.
+#[cold]
+#[inline(never)]
+fn with_no_tables<F: FnMut(&mut MappedSet) -> u32>(alloc: Global, function: &mut F) -> u32
+    requires { F.IsAlwaysCallable function.old }
+    ensures { (left : List InPlace) × CalledAtMut F.FnMut function.old [] result function.new left }
 {
-    let Some(material) = material_of(name) else {
-        return Err(NAME);
-    };
-    match MappedTable::open(alloc, material, kind_of(dtz), bytes) {
-        Ok(table) => Ok(table),
-        Err(fault) => Err(fault_status(fault, answer)),
-    }
-}
-
-/// Takes the tables of a tablebase; a set of no table, if it has none. None if memory is refused.
-fn take_tables(alloc: Global, tablebase: &mut HeldTablebase) -> Option<Box<MappedSet<'static>>>
-    ensures tables { IfSome result (λ tables. tables.value ≡ files_of tablebase.old.value) }
-    ensures kept { IfNone result (tablebase.new.value ≡ tablebase.old.value) }
-{
-    match take(tablebase, alloc) {
-        Some(tables) => Some(tables),
-        None => match Box::new(alloc, MappedSet::of(Vec::new(alloc))) {
-            Ok(tables) => Some(tables),
-            Err(_) => None,
-        },
-    }
+    function(&mut MappedSet::of(Vec::new(alloc)))
 }
 
 /// Adds a table to a tablebase, behind the others: that of this name and kind whose file the bytes are. It reads and checks
@@ -124,12 +101,19 @@ pub extern "C" fn szg_tablebase_add(
     ensures kept { (result ≡ 0 → ⊥) → files_of tablebase.new.value ≡ files_of tablebase.old.value }
     ensures stays { (result ≡ 2 → ⊥) → answer.new ≡ answer.old }
 {
-    let table = match opened(alloc, name, dtz, bytes, answer) {
-        Ok(table) => table,
-        Err(status) => return status,
+    let Some(material) = material_of(name) else {
+        return NAME;
     };
-    let Some(mut tables) = take_tables(alloc, tablebase) else {
-        return MEMORY;
+    let table = match MappedTable::open(alloc, material, kind_of(dtz), bytes) {
+        Ok(table) => table,
+        Err(fault) => return fault_status(fault, answer),
+    };
+    let mut tables = match take(tablebase, alloc) {
+        Some(tables) => tables,
+        None => match Box::new(alloc, MappedSet::of(Vec::new(alloc))) {
+            Ok(tables) => tables,
+            Err(_) => return MEMORY,
+        },
     };
     let added = tables.push(table);
     put(tablebase, tables);
@@ -166,8 +150,10 @@ pub extern "C" fn szg_close_tablebase(alloc: Global, tablebase: &mut HeldTableba
 }
 
 /// Writes what is missing; returns the status.
-fn report_missing(missing: Missing, lack: &mut RawMissing) -> u32
-    ensures reported { IsMissingReported missing result lack.old lack.new }
+#[cold]
+#[inline(never)]
+fn report_missing(missing: &Missing, lack: &mut RawMissing) -> u32
+    ensures reported { IsMissingReported missing.now result lack.old lack.new }
     ensures not_done { result ≡ 0 → ⊥ }
 {
     let name = missing.material.name();
@@ -188,7 +174,7 @@ fn report_missing(missing: Missing, lack: &mut RawMissing) -> u32
 
 /// Writes the class of a position by a set of tables; returns the status.
 pub(crate) fn class_in(
-    set: &mut MappedSet<'static>,
+    set: &mut MappedSet<'_>,
     position: &Position,
     class: &mut i8,
     lack: &mut RawMissing,
@@ -197,23 +183,13 @@ pub(crate) fn class_in(
     ensures reported { IsClassProbed set.old position.now result class.new lack.old lack.new }
     ensures class_stays { (result ≡ 0 → ⊥) → class.new ≡ class.old }
 {
-    match probe_wdl(set, position) {
+    match &probe_wdl(set, position) {
         Ok(found) => {
-            *class = number_of_class(found);
+            *class = number_of_class(*found);
             DONE
         }
         Err(missing) => report_missing(missing, lack),
     }
-}
-
-/// The same by no tables. It is a function of its own, so that only it has room for a set.
-#[cold]
-#[inline(never)]
-fn class_in_none(alloc: Global, position: &Position, class: &mut i8, lack: &mut RawMissing) -> u32
-    ensures reported { IsClassProbed [] position.now result class.new lack.old lack.new }
-    ensures class_stays { (result ≡ 0 → ⊥) → class.new ≡ class.old }
-{
-    class_in(&mut MappedSet::of(Vec::new(alloc)), position, class, lack)
 }
 
 /// Probes the class of a position for the side to move (2 win, 1 cursed win, 0 draw, -1 blessed loss, -2 loss), from the
@@ -238,21 +214,23 @@ pub extern "C" fn szg_tablebase_wdl(
     ensures reported { MatchResult (position_of men.now mover en_passant) (λ p. IsClassProbed (files_of tablebase.old.value) p result class.new lack.old lack.new) (λ status. (result ≡ status) × (lack.new ≡ lack.old)) }
     ensures class_stays { (result ≡ 0 → ⊥) → class.new ≡ class.old }
 {
-    let position = match position_of(men, mover, en_passant) {
+    let found = position_of(men, mover, en_passant);
+    let position = match &found {
         Ok(position) => position,
-        Err(status) => return status,
+        Err(status) => return *status,
     };
     let Some(mut held) = take(tablebase, alloc) else {
-        return class_in_none(alloc, &position, class, lack);
+        let mut look = |set: &mut MappedSet| class_in(set, position, class, lack);
+        return with_no_tables(alloc, &mut look);
     };
-    let status = class_in(&mut held, &position, class, lack);
+    let status = class_in(&mut held, position, class, lack);
     put(tablebase, held);
     status
 }
 
 /// Writes the class and the DTZ of a position by a set of tables; returns the status.
 fn distance_in(
-    set: &mut MappedSet<'static>,
+    set: &mut MappedSet<'_>,
     position: &Position,
     counter: u32,
     distance: &mut RawDistance,
@@ -262,7 +240,7 @@ fn distance_in(
     ensures reported { IsDistanceProbed set.old counter position.now result distance.new lack.old lack.new }
     ensures distance_stays { (result ≡ 0 → ⊥) → distance.new ≡ distance.old }
 {
-    match probe_dtz(set, position) {
+    match &probe_dtz(set, position) {
         Ok(found) => {
             distance.class = number_of_class(found.at_counter(counter).class);
             distance.dtz = found.signed();
@@ -271,28 +249,6 @@ fn distance_in(
         Err(DistanceFault::Tables(missing)) => report_missing(missing, lack),
         Err(DistanceFault::Contradiction) => CONTRADICTION,
     }
-}
-
-/// The same by no tables.
-#[cold]
-#[inline(never)]
-fn distance_in_none(
-    alloc: Global,
-    position: &Position,
-    counter: u32,
-    distance: &mut RawDistance,
-    lack: &mut RawMissing,
-) -> u32
-    ensures reported { IsDistanceProbed [] counter position.now result distance.new lack.old lack.new }
-    ensures distance_stays { (result ≡ 0 → ⊥) → distance.new ≡ distance.old }
-{
-    distance_in(
-        &mut MappedSet::of(Vec::new(alloc)),
-        position,
-        counter,
-        distance,
-        lack,
-    )
 }
 
 /// Probes the class and the DTZ of a position, as `szg_tablebase_wdl`. `counter` is the number of plies since the last
@@ -317,14 +273,16 @@ pub extern "C" fn szg_tablebase_dtz(
     ensures reported { MatchResult (position_of men.now mover en_passant) (λ p. IsDistanceProbed (files_of tablebase.old.value) counter p result distance.new lack.old lack.new) (λ status. (result ≡ status) × (lack.new ≡ lack.old)) }
     ensures distance_stays { (result ≡ 0 → ⊥) → distance.new ≡ distance.old }
 {
-    let position = match position_of(men, mover, en_passant) {
+    let found = position_of(men, mover, en_passant);
+    let position = match &found {
         Ok(position) => position,
-        Err(status) => return status,
+        Err(status) => return *status,
     };
     let Some(mut held) = take(tablebase, alloc) else {
-        return distance_in_none(alloc, &position, counter, distance, lack);
+        let mut look = |set: &mut MappedSet| distance_in(set, position, counter, distance, lack);
+        return with_no_tables(alloc, &mut look);
     };
-    let status = distance_in(&mut held, &position, counter, distance, lack);
+    let status = distance_in(&mut held, position, counter, distance, lack);
     put(tablebase, held);
     status
 }
@@ -336,21 +294,15 @@ fn raw_move(ranked: &RankedMove) -> RawMove
     RawMove {
         from: ranked.m.from.number(),
         to: ranked.m.to.number(),
-        promotion: promotion_code(ranked.m.promotion),
+        promotion: match ranked.m.promotion {
+            Some(man) => man.code(),
+            None => 0,
+        },
         class: number_of_class(ranked.distance.class),
         dtz: ranked.distance.signed(),
         zeroing: ranked.zeroing,
         mate: ranked.mate,
         stalemate: ranked.stalemate,
-    }
-}
-
-fn promotion_code(promotion: Option<Man>) -> u8
-    ensures { result ≡ promotion_code promotion }
-{
-    match promotion {
-        Some(man) => man.code(),
-        None => 0,
     }
 }
 
@@ -366,7 +318,7 @@ fn write_moves(ranked: &[RankedMove], moves: &mut [RawMove])
 
 /// Writes the moves of a position to the beginning of a list, the best first, by a set of tables; returns the status.
 fn moves_in(
-    set: &mut MappedSet<'static>,
+    set: &mut MappedSet<'_>,
     position: &Position,
     counter: u32,
     moves: &mut [RawMove],
@@ -377,41 +329,18 @@ fn moves_in(
     ensures reported { IsRankedWritten set.old counter position.now result moves.old moves.new count.new lack.old lack.new }
     ensures stays { (result ≡ 0 → ⊥) → (moves.new ≡ moves.old) × (count.new ≡ count.old) }
 {
-    let ranked = match rank_moves(set, position, counter) {
-        Ok(ranked) => ranked,
+    let mut ranked = ArrayVec::new();
+    match &rank_moves(set, position, counter, &mut ranked) {
+        Ok(()) => {}
         Err(DistanceFault::Tables(missing)) => return report_missing(missing, lack),
         Err(DistanceFault::Contradiction) => return CONTRADICTION,
-    };
+    }
     if moves.len() < ranked.len() {
         return RANGE;
     }
     write_moves(ranked.as_slice(), moves);
     *count = ranked.len();
     DONE
-}
-
-/// The same by no tables.
-#[cold]
-#[inline(never)]
-fn moves_in_none(
-    alloc: Global,
-    position: &Position,
-    counter: u32,
-    moves: &mut [RawMove],
-    count: &mut usize,
-    lack: &mut RawMissing,
-) -> u32
-    ensures reported { IsRankedWritten [] counter position.now result moves.old moves.new count.new lack.old lack.new }
-    ensures stays { (result ≡ 0 → ⊥) → (moves.new ≡ moves.old) × (count.new ≡ count.old) }
-{
-    moves_in(
-        &mut MappedSet::of(Vec::new(alloc)),
-        position,
-        counter,
-        moves,
-        count,
-        lack,
-    )
 }
 
 /// Writes the legal moves of a position to the beginning of a list, and their number: the best first, by class, then a win by
@@ -435,14 +364,16 @@ pub extern "C" fn szg_tablebase_moves(
     ensures reported { MatchResult (position_of men.now mover en_passant) (λ p. IsRankedWritten (files_of tablebase.old.value) counter p result moves.old moves.new count.new lack.old lack.new) (λ status. (result ≡ status) × (lack.new ≡ lack.old)) }
     ensures stays { (result ≡ 0 → ⊥) → (moves.new ≡ moves.old) × (count.new ≡ count.old) }
 {
-    let position = match position_of(men, mover, en_passant) {
+    let found = position_of(men, mover, en_passant);
+    let position = match &found {
         Ok(position) => position,
-        Err(status) => return status,
+        Err(status) => return *status,
     };
     let Some(mut held) = take(tablebase, alloc) else {
-        return moves_in_none(alloc, &position, counter, moves, count, lack);
+        let mut look = |set: &mut MappedSet| moves_in(set, position, counter, moves, count, lack);
+        return with_no_tables(alloc, &mut look);
     };
-    let status = moves_in(&mut held, &position, counter, moves, count, lack);
+    let status = moves_in(&mut held, position, counter, moves, count, lack);
     put(tablebase, held);
     status
 }

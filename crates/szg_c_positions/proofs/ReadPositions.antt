@@ -11,9 +11,9 @@ use Rattle.szg_values.specs.declared.Man.{Man}
 use Rattle.szg_values.specs.declared.Man.TheVariants as man
 use Rattle.szg_values.specs.declared.Color.{Color}
 use Rattle.szg_values.specs.declared.Color.TheVariants as color
-use Rattle.szg_values.specs.Men.{code_of}
+use Rattle.szg_values.specs.Men.{code_of, man_at}
 use Rattle.szg_chess.specs.Position.{IsPosition, Position}
-use Rattle.szg_c_positions.specs.Men.{coded_man, color_code, color_of, is_coded_man, man_of_code, placed_man_of}
+use Rattle.szg_c_positions.specs.Men.{coded_man, color_code, color_of, is_coded_man, placed_man_of}
 use Rattle.szg_c_positions.specs.Fens.{square_code}
 use Rattle.szg_c_positions.specs.Positions.{position_of, square_of}
 use Rattle.szg_c_positions.specs.declared.men.RawMan.{RawMan}
@@ -26,7 +26,7 @@ color_known : (c : Color) → nat_lt (color_code c) 2 ≡ true
 color_known color.White = refl
 color_known color.Black = refl
 
-man_again : (m : Man) → man_of_code (code_of m) ≡ m
+man_again : (m : Man) → man_at (code_of m) ≡ m
 man_again man.Pawn = refl
 man_again man.Knight = refl
 man_again man.Bishop = refl

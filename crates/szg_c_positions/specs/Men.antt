@@ -1,10 +1,8 @@
 -- Placements as C passes them.
 use Rattle.std.specs.Prelude.{◌≡◌, ℕ, Bool, true, not, ◌&&◌, ◌==◌, nat_lt, List, ◌++◌, length, drop, map, Option, Some, None, Result, Ok, Err, if◌then◌else◌}
 use Rattle.std.specs.List.{list_all}
-use Rattle.szg_values.specs.Men.{code_of}
+use Rattle.szg_values.specs.Men.{code_of, man_at}
 use Rattle.szg_values.specs.Placement.{PlacedMan, Board, AreStanding, men_key, placement_fault}
-use Rattle.szg_values.specs.declared.Man.{Man}
-use Rattle.szg_values.specs.declared.Man.TheVariants.{Pawn, Knight, Bishop, Rook, Queen, King}
 use Rattle.szg_values.specs.declared.Color.{Color}
 use Rattle.szg_values.specs.declared.Color.TheVariants.{White, Black}
 use Rattle.szg_values.specs.declared.PlacementFault.{PlacementFault}
@@ -16,20 +14,12 @@ use Rattle.szg_c_positions.specs.declared.status.TheConstants.{RANGE}
 abbrev pub is_coded_man : RawMan → Bool
 is_coded_man man = nat_lt 0 man.kind && nat_lt man.kind 7 && nat_lt man.color 2 && nat_lt man.square 64
 
--- the number of a kind is its code in a file
-abbrev pub man_of_code : ℕ → Man
-man_of_code kind =
-    if kind == 1 then Pawn else
-    if kind == 2 then Knight else
-    if kind == 3 then Bishop else
-    if kind == 4 then Rook else
-    if kind == 5 then Queen else King
-
 abbrev pub color_of : ℕ → Color
 color_of color = if color == 0 then White else Black
 
+-- the number of a kind is its code in a file
 abbrev pub placed_man_of : RawMan → PlacedMan
-placed_man_of man = (man_of_code man.kind, color_of man.color, man.square)
+placed_man_of man = (man_at man.kind, color_of man.color, man.square)
 
 -- ---- statuses: 6 invalid number; 7 to 9 no placement
 

@@ -64,14 +64,9 @@ pub fn men_of(board: &RawBoard) -> Result<ArrayVec<RawMan, MAX_MEN>, u32>
 fn has_kinds(board: &RawBoard) -> bool
     ensures { result ≡ (colors_of board.now == kinds_of board.now) }
 {
-    (board.white | board.black) == kinds_of(board)
-}
-
-/// Returns the squares of all kinds.
-fn kinds_of(board: &RawBoard) -> u64
-    ensures { result ≡ kinds_of board.now }
-{
-    board.pawns | (board.knights | (board.bishops | (board.rooks | (board.queens | board.kings))))
+    let kinds = board.pawns
+        | (board.knights | (board.bishops | (board.rooks | (board.queens | board.kings))));
+    (board.white | board.black) == kinds
 }
 
 /// Returns whether a square has two colours or two kinds.

@@ -2,7 +2,7 @@
 ghost use Rattle.std.specs.Prelude.{◌≡◌};
 ghost use Rattle.szg_c_positions.specs.Fens.{IsRead, fen_result, square_code};
 
-use crate::men::{RawMan, coded_men, color_code};
+use crate::men::{RawMan, coded_men};
 use crate::positions::position_status;
 use crate::status::{DONE, MAN};
 use szg_chess::{FenRecord, Position};
@@ -46,7 +46,7 @@ pub fn write_position(said: &FenRecord, position: &mut RawPosition) -> u32
     let coded = coded_men(placed);
     position.men[..placed.len()].copy_from_slice(&coded);
     position.count = placed.len();
-    position.mover = color_code(said.position.mover());
+    position.mover = said.position.mover() as u8;
     position.en_passant = square_code(said.position.en_passant());
     position.counter = said.halfmove;
     DONE

@@ -3,7 +3,7 @@ ghost use Rattle.std.specs.Prelude.{◌≡◌, ◌<◌, ◌≤◌, ◌&&◌, ◌
 ghost use Rattle.std.specs.declared.option.Option.TheVariants.{None, Some};
 ghost use Rattle.std.specs.List.{list_all};
 ghost use Rattle.szg_values.specs.Placement.{AreStanding, men_key};
-ghost use Rattle.szg_c_positions.specs.Men.{ArePut, IsWritten, board_of, coded_man, color_code as color_number, color_of as color_stated, with_room, is_coded_man, man_of_code, placement_status, placed_man_of};
+ghost use Rattle.szg_c_positions.specs.Men.{ArePut, IsWritten, board_of, coded_man, color_of as color_stated, with_room, is_coded_man, placement_status, placed_man_of};
 
 use crate::status::{DONE, MAN, MEN, PAWN_RANK, RANGE, SAME_SQUARE};
 use arrayvec::ArrayVec;
@@ -142,23 +142,7 @@ fn placed_man_of(man: &RawMan) -> Option<(Man, Color, Square)>
         return None;
     }
     let square = Square::new(man.square)?;
-    Some((kind_of(man.kind), color_of(man.color), square))
-}
-
-fn kind_of(kind: u8) -> Man
-    requires some { 0 < kind }
-    requires known { kind < 7 }
-    ensures { result ≡ man_of_code kind }
-{
-    match kind {
-        1 => Man::Pawn,
-        2 => Man::Knight,
-        3 => Man::Bishop,
-        4 => Man::Rook,
-        5 => Man::Queen,
-        6 => Man::King,
-        _ => unreachable!(),
-    }
+    Some((Man::of_code(man.kind), color_of(man.color), square))
 }
 
 pub(crate) fn color_of(color: u8) -> Color
@@ -201,7 +185,7 @@ pub fn write_placement(
     let coded = coded_men(placed);
     men[..placed.len()].copy_from_slice(&coded);
     *count = placed.len();
-    *mover = color_code(placement.mover());
+    *mover = placement.mover() as u8;
     DONE
 }
 
@@ -214,18 +198,9 @@ pub(crate) fn coded_men(placed: &[(Man, Color, Square)]) -> ArrayVec<RawMan, MAX
     for (kind, color, square) in placed {
         coded.push(RawMan {
             kind: kind.code(),
-            color: color_code(*color),
+            color: *color as u8,
             square: square.number(),
         });
     }
     coded
-}
-
-pub(crate) fn color_code(color: Color) -> u8
-    ensures { result ≡ color_number color }
-{
-    match color {
-        Color::White => 0,
-        Color::Black => 1,
-    }
 }

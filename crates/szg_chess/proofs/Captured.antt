@@ -50,7 +50,7 @@ pub filter_all : {X : Type 0} (test : X → Bool) (xs : List X) → All (λ x. t
 filter_all test [] all = refl
 filter_all {X} test (x ∷ xs) all = let P : X → Type 0 = λ y. test y ≡ true in rw (All-head P x xs all) (ap (λ (ys : List X). x ∷ ys) (filter_all test xs (All-tail P x xs all)))
 
-filter_none : {X : Type 0} (test : X → Bool) (xs : List X) → All (λ x. test x ≡ false) xs → filter test xs ≡ []
+pub filter_none : {X : Type 0} (test : X → Bool) (xs : List X) → All (λ x. test x ≡ false) xs → filter test xs ≡ []
 filter_none test [] all = refl
 filter_none {X} test (x ∷ xs) all = let P : X → Type 0 = λ y. test y ≡ false in rw (All-head P x xs all) (filter_none test xs (All-tail P x xs all))
 

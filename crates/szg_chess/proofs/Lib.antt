@@ -9,11 +9,13 @@ pub mod AfterMove
 pub mod Captured
 pub mod Found
 pub mod Zeroing
+pub mod ZeroingMoves
 pub mod Sets
 pub mod Reach
 pub mod Enemies
 pub mod Rows
 pub mod SafeMove
+pub mod Reached
 pub mod Cells
 pub mod Writing
 pub mod Relation

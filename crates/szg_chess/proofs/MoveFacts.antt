@@ -107,11 +107,18 @@ all_inside n e =
     let size = length-range_with_len 0 n in let at = get_or-range_with_len 0 n k d (omega (arith, size)) in omega (arith, at, size) in
     rw (all_is n e) inside
 
+-- each move of a man to an empty square is one of this man
+pub quiet_by : (p : Position) (s : PlacedMan) → Contains p.placed_men s → is_color p.mover s.1 ≡ true → All (Made p (λ u to. Enters p u to × (u ≡ s))) (quiet_moves_by p.placed_men s)
+quiet_by p s stands own =
+    let W : PlacedMan → ℕ → Type 0 = λ u to. Enters p u to × (u ≡ s) in
+    let f : ℕ → List Move = λ to. moves_if (may_enter p.placed_men s to) s to in
+    All-flat_map f (Made p W) all_squares (All-weaker (λ (to : ℕ). to < 64) (λ to. All (Made p W) (f to))
+    (λ to inside. all_if p W (may_enter p.placed_men s to) s to stands own (λ may. (record { may = may; inside = inside }, refl))) all_squares (all_inside 64 refl))
+
 all_quiet_by : (p : Position) (s : PlacedMan) → Contains p.placed_men s → is_color p.mover s.1 ≡ true → All (Made p (Enters p)) (quiet_moves_by p.placed_men s)
 all_quiet_by p s stands own =
-    let f : ℕ → List Move = λ to. moves_if (may_enter p.placed_men s to) s to in
-    All-flat_map f (Made p (Enters p)) all_squares (All-weaker (λ (to : ℕ). to < 64) (λ to. All (Made p (Enters p)) (f to))
-    (λ to inside. all_if p (Enters p) (may_enter p.placed_men s to) s to stands own (λ may. record { may = may; inside = inside })) all_squares (all_inside 64 refl))
+    let W : PlacedMan → ℕ → Type 0 = λ u to. Enters p u to × (u ≡ s) in
+    All-weaker (Made p W) (Made p (Enters p)) (made_weaker p W (Enters p) (λ u to way. way.0)) (quiet_moves_by p.placed_men s) (quiet_by p s stands own)
 
 -- each capture is one
 pub all_captures : (p : Position) → All (Made p (Captures p)) (captures_of p)

@@ -1,9 +1,10 @@
 -- The tables of squares.
-use Rattle.std.proofs.Common.{◌≡◌, ℕ, ◌+◌, ◌*◌, ◌/◌, ◌%◌, ◌^◌, ◌<◌, zero, suc, refl, sym, ap, ◌∙◌, Bool, true, false, arith, zero-add}
+use Rattle.std.proofs.Common.{◌≡◌, ℕ, [], ◌+◌, ◌*◌, ◌/◌, ◌%◌, ◌^◌, ◌<◌, zero, suc, refl, sym, ap, ◌∙◌, Bool, true, false, arith, zero-add}
 use Rattle.std.specs.Prelude.{◌==◌, ◌&&◌, slice_index, if◌then◌else◌}
 use Rattle.std.specs.Int.{bit_at}
 use Rattle.std.specs.List.{list_all, range_with_len}
 use Rattle.std.proofs.lemmas.Bool.{eqb-true, and_parts}
+use Rattle.std.proofs.lemmas.Nat.Bits.{bit_at-zero}
 use Rattle.szg_values.specs.Men.{is_man, is_color, code_of, file_of}
 use Rattle.szg_values.specs.declared.Man.{Man}
 use Rattle.szg_values.specs.declared.Man.TheVariants.{Pawn, Knight, Bishop, Rook, Queen, King}
@@ -13,6 +14,7 @@ use Rattle.szg_chess.specs.Attacks.{attacks, is_between}
 use Rattle.szg_chess.specs.Squares.{is_in, set_below, squares_between, reach_of}
 use Rattle.szg_chess.specs.Moves.{all_squares}
 use Rattle.szg_chess.specs.declared.tables.TheConstants.{REACH, BETWEEN}
+use Rattle.szg_chess.proofs.Sets.{in_set}
 use Rattle.szg_chess.proofs.Squares.{at_square}
 
 abbrev is_between_set : ℕ → Bool
@@ -155,6 +157,10 @@ king = refl
 read : (number : ℕ) (man : Man) (color : Color) → list_all (is_row number man color) all_squares ≡ true → (from : ℕ) → from < 64 → slice_index REACH (64 * number + from) ≡ reach_of (man, color, from)
 read number man color all from h = eqb-true (slice_index REACH (64 * number + from)) (reach_of (man, color, from)) (at_square (is_row number man color) all from h)
 
+no_row : list_all (λ from. slice_index REACH (64 * 7 + from) == 0) all_squares ≡ true
+unfolding all_squares
+no_row = refl
+
 pub reach_read : (man : Man) (color : Color) (from : ℕ) → from < 64 → slice_index REACH (64 * (if is_man Pawn man && is_color Black color then 0 else code_of man) + from) ≡ reach_of (man, color, from)
 unfolding attacks
 reach_read Pawn White from h = read 1 Pawn White white_pawn from h
@@ -164,6 +170,13 @@ reach_read Bishop color from h = read 3 Bishop White bishop from h
 reach_read Rook color from h = read 4 Rook White rook from h
 reach_read Queen color from h = read 5 Queen White queen from h
 reach_read King color from h = read 6 King White king from h
+
+-- the sets of a man, or the empty ones
+pub reach_by_read : (own : Bool) (man : Man) (color : Color) (from square : ℕ) → from < 64 → square < 64 →
+    is_in (slice_index REACH (64 * (if own then (if is_man Pawn man && is_color Black color then 0 else code_of man) else 7) + from)) square ≡ (own && attacks [] (man, color, from) square)
+reach_by_read true man color from square h inside = ap (λ (n : ℕ). is_in n square) (reach_read man color from h) ∙ in_set (attacks [] (man, color, from)) square inside
+reach_by_read false man color from square h inside =
+    ap (λ (n : ℕ). is_in n square) (eqb-true (slice_index REACH (64 * 7 + from)) 0 (at_square (λ (n : ℕ). slice_index REACH (64 * 7 + n) == 0) no_row from h)) ∙ ap (λ (n : ℕ). n == 1) (bit_at-zero square)
 
 -- the squares of a file
 abbrev is_filed : ℕ → Bool

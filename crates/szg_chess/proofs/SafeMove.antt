@@ -31,7 +31,7 @@ any_fused f g h (x ∷ xs) = elim (cases_Bool (h x)) [
   | inr e ↦ rw e (any_fused f g h xs)
 ]
 
-any_alike : {X : Type 0} (P : X → Type 0) (f g : X → Bool) (xs : List X) → All P xs → ((x : X) → P x → f x ≡ g x) → list_any f xs ≡ list_any g xs
+pub any_alike : {X : Type 0} (P : X → Type 0) (f g : X → Bool) (xs : List X) → All P xs → ((x : X) → P x → f x ≡ g x) → list_any f xs ≡ list_any g xs
 any_alike P f g [] all same = refl
 any_alike P f g (x ∷ xs) all same = ap (λ (b : Bool). b || list_any f xs) (same x (All-head P x xs all)) ∙ ap (λ (b : Bool). g x || b) (any_alike P f g xs (All-tail P x xs all) same)
 

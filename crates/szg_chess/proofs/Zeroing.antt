@@ -18,7 +18,7 @@ use Rattle.szg_chess.specs.Laws.{ranks_to_go, zeroing_left}
 use Rattle.szg_chess.proofs.Facts.{faultless}
 use Rattle.szg_chess.proofs.Members.{any_of, contains_cons}
 use Rattle.szg_chess.proofs.AfterMen.{is_off, off_is, off_from, moved, stays}
-use Rattle.szg_chess.proofs.MoveFacts.{IsMove, legal_move}
+use Rattle.szg_chess.proofs.MoveFacts.{IsMove, Made, Way, legal_move}
 use Rattle.szg_chess.proofs.AfterMove.{is_pawn, pawn_attack, pushed, its_pawn, is_it, man_now, inside_to, taking_plain, pass_is, list_after, after_is}
 use Rattle.szg_chess.proofs.Captured.{capture_takes, capture_passes, capture_enters, enters_off}
 
@@ -163,8 +163,8 @@ none_more p m position move = λ k d h.
     ]
 
 -- the mover's pawn is on the square that it leaves
-pawn_on : (p : Position) (m : Move) → (move : IsMove p m) → is_man Pawn move.man.0 ≡ true → is_pawn_on p m.from ≡ true
-pawn_on p m move pawn =
+pub pawn_on : (p : Position) (m : Move) (W : PlacedMan → ℕ → Type 0) → (move : Made p W m) → is_man Pawn move.man.0 ≡ true → is_pawn_on p m.from ≡ true
+pawn_on p m W move pawn =
     let s = move.man in
     any_of (λ (u : PlacedMan). is_man Pawn u.0 && is_color p.mover u.1 && u.2 == m.from) p.placed_men s move.stands
     (and_from (is_man Pawn s.0 && is_color p.mover s.1) (s.2 == m.from) (and_from (is_man Pawn s.0) (is_color p.mover s.1) pawn move.own) (eq-eqb s.2 m.from (sym move.from_is)))
@@ -195,7 +195,7 @@ quiet_law p m position held quiet =
     let move = (legal_move p m held).0 in let s = move.man in let c = captured_square p m in
     let parts = or_parts (is_pawn_on p m.from) (is_capture p m) quiet in
     let piece : is_man Pawn s.0 ≡ false = elim (cases_Bool (is_man Pawn s.0)) [
-      | inl pawn ↦ absurd (both_ways (is_pawn_on p m.from) parts.0 (pawn_on p m move pawn))
+      | inl pawn ↦ absurd (both_ways (is_pawn_on p m.from) parts.0 (pawn_on p m (Way p) move pawn))
       | inr piece ↦ piece
     ] in
     let off : All (λ (u : PlacedMan). u.2 ≢ c) p.placed_men = elim move.way [

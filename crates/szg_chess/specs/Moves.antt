@@ -91,6 +91,10 @@ quiet_moves_by men s = flat_map (λ to. moves_if (may_enter men s to) s to) all_
 unfoldable pub quiet_moves_of : Position → List Move
 quiet_moves_of p = flat_map (quiet_moves_by p.placed_men) (men_of p.mover p.placed_men)
 
+-- those of its pawns
+unfoldable pub pawn_moves_of : Position → List Move
+pawn_moves_of p = flat_map (quiet_moves_by p.placed_men) (filter (λ s. is_color p.mover s.1 && is_man Pawn s.0) p.placed_men)
+
 -- the moves of the side to move, if checks did not matter: captures, then moves to empty squares
 abbrev pub moves_of : Position → List Move
 moves_of p = captures_of p ++ quiet_moves_of p

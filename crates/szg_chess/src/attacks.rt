@@ -1,16 +1,15 @@
 //! Attacks and checks, by sets of squares: bit n is the square with the number n.
 
-ghost use Rattle.std.specs.Prelude.{◌≡◌, ◌<◌, ◌==◌, ◌&&◌, ◌+◌, if◌then◌else◌};
+ghost use Rattle.std.specs.Prelude.{ℕ, ◌≡◌, ◌<◌, ◌==◌, ◌&&◌, ◌+◌, if◌then◌else◌};
 ghost use Rattle.std.specs.List.{list_any};
 ghost use Rattle.szg_values.specs.Men.{is_man, is_color, other_color, code_of, file_of, rank_of};
 ghost use Rattle.szg_values.specs.Placement.{AreOnBoard};
 ghost use Rattle.szg_values.specs.declared.Man.TheVariants.{Pawn, King};
 ghost use Rattle.szg_values.specs.declared.Color.TheVariants.{Black};
-ghost use Rattle.szg_chess.specs.Attacks.{distance, files_apart, ranks_apart, is_ahead, is_in_check, reaches_other};
-ghost use Rattle.szg_chess.specs.Squares.{is_in, squares_of, squares_between, reach_of, attacks_past};
+ghost use Rattle.szg_chess.specs.Attacks.{distance, files_apart, ranks_apart, is_ahead, is_in_check};
+ghost use Rattle.szg_chess.specs.Squares.{is_in, reached_of, squares_of, squares_between, reach_of, attacks_past};
 
-use crate::moves::next_in;
-use crate::tables::{reach_of, squares_between};
+use crate::tables::{reach_by, reach_of, squares_between};
 use szg_values::{Color, Man, Square};
 
 /// Returns the distance between two numbers.
@@ -85,59 +84,65 @@ pub(crate) fn squares_of(men: &[(Man, Color, Square)]) -> u64
     squares
 }
 
-/// Returns whether some man of a colour would attack a man of the other one on an empty board. If not, none attacks one. No
-/// branch depends on a man, since a processor could not predict it.
-pub(crate) fn reaches_other(men: &[(Man, Color, Square)], color: Color) -> bool
+/// Returns the squares of the other colour's men that some man of this colour would attack on an empty board. No branch
+/// depends on a man, since a processor could not predict it.
+pub(crate) fn reached_by(men: &[(Man, Color, Square)], color: Color) -> u64
     requires { AreOnBoard men.now }
-    ensures { result ≡ reaches_other men.now color }
+    ensures { result ≡ reached_of men.now color }
 {
     let mut reached = 0u64;
     let mut others = 0u64;
     for man in men {
-        let reach = reach_of(man);
-        let square = 1 << man.2.number();
-        if is_of(color, man) {
-            reached |= reach;
-        } else {
-            others |= square;
-        }
+        reached |= reach_by(color, man);
+        others |= square_of_other(color, man);
     }
-    next_in(reached & others, 0) < 64
+    reached & others
+}
+
+/// Returns the square of a man that is not of this colour, as a set; none if it is.
+fn square_of_other(color: Color, man: &(Man, Color, Square)) -> u64
+    ensures { (square : ℕ) → square < 64 → is_in result square ≡ (is_color (other_color color) man.now.1 && man.now.2 == square) }
+{
+    if is_of(color, man) {
+        0
+    } else {
+        1 << man.2.number()
+    }
 }
 
 /// Returns whether a man is of a colour.
-fn is_of(color: Color, man: &(Man, Color, Square)) -> bool
+pub(crate) fn is_of(color: Color, man: &(Man, Color, Square)) -> bool
     ensures { result ≡ is_color color man.now.1 }
 {
     man.1 == color
 }
 
-/// Returns whether a colour's king is attacked by the other side, if the men are on these squares. That no man of the other
-/// side reaches any is soon known.
+/// Returns whether a colour's king is attacked by the other side, if the men are on these squares.
 pub(crate) fn is_in_check(men: &[(Man, Color, Square)], occupied: u64, color: Color) -> bool
     requires on_board { AreOnBoard men.now }
     requires squares { occupied ≡ squares_of men.now }
     ensures { result ≡ is_in_check men.now color }
 {
     let other = other_color(color);
-    is_in_check_by(men, occupied, color, other, reaches_other(men, other))
+    is_in_check_by(men, occupied, color, other, reached_by(men, other))
 }
 
-/// The same, given the other colour, and whether some man of it would attack one of this colour on an empty board.
+/// The same, given the other colour, and the squares of this colour's men that it would reach on an empty board. That no man
+/// of it reaches the king is soon known.
 pub(crate) fn is_in_check_by(
     men: &[(Man, Color, Square)],
     occupied: u64,
     color: Color,
     other: Color,
-    reaches: bool,
+    reached: u64,
 ) -> bool
     requires on_board { AreOnBoard men.now }
     requires squares { occupied ≡ squares_of men.now }
     requires other { other ≡ other_color color }
-    requires reaches { reaches ≡ reaches_other men.now other }
+    requires reached { reached ≡ reached_of men.now other }
     ensures { result ≡ is_in_check men.now color }
 {
-    reaches && has_attacked_king(men, occupied, color, other)
+    has_attacked_king(men, occupied, color, other, reached)
 }
 
 fn has_attacked_king(
@@ -145,11 +150,15 @@ fn has_attacked_king(
     occupied: u64,
     color: Color,
     other: Color,
+    reached: u64,
 ) -> bool
-    ensures { result ≡ list_any (λ s. is_man King s.0 && is_color color s.1 && list_any (λ t. is_color other t.1 && attacks_past occupied t s.2) men.now) men.now }
+    ensures { result ≡ list_any (λ s. is_man King s.0 && is_color color s.1 && is_in reached s.2 && list_any (λ t. is_color other t.1 && attacks_past occupied t s.2) men.now) men.now }
 {
     men.iter().any(|man| {
-        man.0 == Man::King && man.1 == color && is_attacked(men, occupied, other, man.2)
+        man.0 == Man::King
+            && man.1 == color
+            && is_in(reached, man.2.number())
+            && is_attacked(men, occupied, other, man.2)
     })
 }
 

@@ -88,25 +88,24 @@ pub struct Position {
     occupied: u64,
     /// The number of men of each kind and colour, as [`PlacedMen::key`](szg_values::PlacedMen::key).
     key: u64,
-    /// Whether some man of the side to move would attack an enemy man on an empty board.
-    reaches: bool,
+    /// The squares of the enemy men that some man of the side to move would attack on an empty board.
+    reached: u64,
     mover: Color,
     en_passant: Option<Square>,
 }
 
 impl Model for Position {
     ghost use Rattle.szg_chess.specs.Position.{Position};
-    ghost use Rattle.szg_chess.specs.Attacks.{reaches_other};
-    ghost use Rattle.szg_chess.specs.Squares.{IsStored, squares_of};
+    ghost use Rattle.szg_chess.specs.Squares.{IsStored, reached_of, squares_of};
     ghost use Rattle.szg_values.specs.Placement.{men_key};
 
     ghost Value = { Position };
 
     ghost view = { λ p. record { placed_men = p.men; mover = p.mover; en_passant = p.en_passant } };
 
-    ghost invariant = { λ p. IsStored (record { placed_men = p.men; mover = p.mover; en_passant = p.en_passant }) p.occupied p.key p.reaches };
+    ghost invariant = { λ p. IsStored (record { placed_men = p.men; mover = p.mover; en_passant = p.en_passant }) p.occupied p.key p.reached };
 
-    ghost inverse = { λ p. record { men = p.placed_men; occupied = squares_of p.placed_men; key = men_key p.placed_men; reaches = reaches_other p.placed_men p.mover; mover = p.mover; en_passant = p.en_passant } };
+    ghost inverse = { λ p. record { men = p.placed_men; occupied = squares_of p.placed_men; key = men_key p.placed_men; reached = reached_of p.placed_men p.mover; mover = p.mover; en_passant = p.en_passant } };
 }
 
 /// What a text in Forsyth-Edwards Notation says: a position and two counters.

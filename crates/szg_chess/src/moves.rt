@@ -5,14 +5,14 @@ ghost use Rattle.std.specs.List.{All, find, list_any};
 ghost use Rattle.arrayvec.specs.ArrayVec.{array_vec_len};
 ghost use Rattle.szg_values.specs.Men.{is_man, is_color, other_color, file_of, rank_of, square_at};
 ghost use Rattle.szg_values.specs.Placement.{AreOnBoard, PlacedMan, men_key};
-ghost use Rattle.szg_values.specs.declared.Man.TheVariants.{King};
+ghost use Rattle.szg_values.specs.declared.Man.TheVariants.{King, Pawn};
 ghost use Rattle.szg_chess.specs.Attacks.{attacks, is_occupied, is_in_check};
 ghost use Rattle.szg_chess.specs.Position.{IsPosition};
 ghost use Rattle.szg_chess.specs.Squares.{is_in, is_in_moved, squares_of, attacks_past};
-ghost use Rattle.szg_chess.specs.Moves.{men_of, promotes, moves_to, moves_if, may_pass, en_passant_moves, captures_by, captures_of, home_rank, double_rank, is_push, may_enter, quiet_moves_by, quiet_moves_of, moves_of, is_pawn_on, is_square, is_en_passant, captured_square, man_after, men_after, is_double_step, middle, after, is_legal, legal_moves, legal_captures, is_capture, is_zeroing, is_mate, is_stalemate, has_no_move, has_quiet_move, has_move_beside_en_passant, may_capture};
+ghost use Rattle.szg_chess.specs.Moves.{men_of, promotes, moves_to, moves_if, may_pass, en_passant_moves, captures_by, captures_of, home_rank, double_rank, is_push, may_enter, quiet_moves_by, quiet_moves_of, pawn_moves_of, moves_of, is_pawn_on, is_square, is_en_passant, captured_square, man_after, men_after, is_double_step, middle, after, is_legal, legal_moves, legal_captures, is_capture, is_zeroing, is_mate, is_stalemate, has_no_move, has_quiet_move, has_move_beside_en_passant, may_capture};
 
 use crate::attacks::{
-    attacks_past, files_apart, is_ahead, is_in, other_color, ranks_apart, reaches_other,
+    attacks_past, files_apart, is_ahead, is_in, other_color, ranks_apart, reached_by,
 };
 use crate::men::{Few, moved};
 use crate::positions::is_on;
@@ -65,6 +65,17 @@ impl Position {
         moves
     }
 
+    /// Returns the legal moves that are captures or pawns' moves, in the order of `legal_moves`.
+    pub fn zeroing_moves(&self) -> ArrayVec<Move, MAX_MOVES>
+        ensures { result.items ≡ filter (is_zeroing self.now) (legal_moves self.now) }
+    {
+        self.zeroing_moves_fit();
+        let mut moves = ArrayVec::new();
+        self.push_captures(&mut moves);
+        self.push_pawn_moves(&mut moves);
+        moves
+    }
+
     /// Returns the position after a legal move.
     #[inline(always)]
     #[tactic(auto, unfolding(crate::specs::Moves::after))]
@@ -78,12 +89,12 @@ impl Position {
         let men = self.men_after(&m, captured);
         let key = self.key_after(&m, captured, &men);
         let mover = other_color(self.mover());
-        let reaches = reaches_other(men.as_slice(), mover);
+        let reached = reached_by(men.as_slice(), mover);
         Position {
             men,
             occupied,
             key,
-            reaches,
+            reached,
             mover,
             en_passant,
         }
@@ -174,59 +185,50 @@ impl Position {
         let _ = self.men();
     }
 
+    // A fact that callers may use: which moves are zeroing, and that there are few.
+    fn zeroing_moves_fit(&self)
+        ensures few { length (captures_of self.now) + length (pawn_moves_of self.now) ≤ 116 }
+        ensures all { filter (is_zeroing self.now) (legal_moves self.now) ≡ legal_captures self.now ++ filter (is_legal self.now) (pawn_moves_of self.now) }
+    {
+        let _ = self.men();
+    }
+
     /// Appends the legal captures.
     #[tactic(auto, unfolding(crate::specs::Moves::captures_of))]
     fn push_captures<const CAP: usize>(&self, moves: &mut ArrayVec<Move, CAP>)
         requires { array_vec_len moves.old + length (captures_of self.now) ≤ CAP }
         ensures { moves.new.items ≡ moves.old.items ++ filter (is_legal self.now) (captures_of self.now) }
     {
-        let enemies = self.enemies();
         for man in self.men() {
             if self.is_own(man) {
-                self.push_captures_by(moves, man, enemies);
+                self.push_captures_by(moves, man);
             }
         }
     }
 
-    /// Appends the legal captures of a man. `enemies` has the squares of the other side's men.
+    /// Appends the legal captures of a man.
     fn push_captures_by<const CAP: usize>(
         &self,
         moves: &mut ArrayVec<Move, CAP>,
         man: &(Man, Color, Square),
-        enemies: u64,
     )
         requires standing { Contains self.now.placed_men man.now }
         requires own { is_color self.now.mover man.now.1 ≡ true }
-        requires enemies { (square : ℕ) → square < 64 → is_in enemies square ≡ list_any (λ s. is_color (other_color self.now.mover) s.1 && s.2 == square) self.now.placed_men }
         requires room { array_vec_len moves.old + length (captures_by self.now man.now) ≤ CAP }
         ensures { moves.new.items ≡ moves.old.items ++ filter (is_legal self.now) (captures_by self.now man.now) }
     {
-        self.push_captures_of_men(moves, man, enemies);
+        self.push_captures_of_men(moves, man);
         self.push_en_passant(moves, man);
     }
 
-    /// Returns the squares of the other side's men.
-    fn enemies(&self) -> u64
-        ensures { (square : ℕ) → square < 64 → is_in result square ≡ list_any (λ s. is_color (other_color self.now.mover) s.1 && s.2 == square) self.now.placed_men }
-    {
-        let mut squares = 0u64;
-        for man in self.men() {
-            if self.is_enemy(man) {
-                squares |= 1 << man.2.number();
-            }
-        }
-        squares
-    }
-
-    /// Returns whether a man would attack an enemy man on an empty board. If not, it attacks none.
-    fn reaches_enemy(&self, man: &(Man, Color, Square), enemies: u64) -> bool
-        requires { (square : ℕ) → square < 64 → is_in enemies square ≡ list_any (λ s. is_color (other_color self.now.mover) s.1 && s.2 == square) self.now.placed_men }
+    /// Returns whether a man of the mover's would attack an enemy man on an empty board. If not, it attacks none.
+    fn reaches_enemy(&self, man: &(Man, Color, Square)) -> bool
+        requires standing { Contains self.now.placed_men man.now }
+        requires own { is_color self.now.mover man.now.1 ≡ true }
         ensures reached { result ≡ list_any (λ t. is_color (other_color self.now.mover) t.1 && attacks [] man.now t.2) self.now.placed_men }
         ensures none { IsFalse result → flat_map (λ t. moves_if (attacks self.now.placed_men man.now t.2) man.now t.2) (men_of (other_color self.now.mover) self.now.placed_men) ≡ [] }
     {
-        // A fact that the proof uses: the men are those of a position.
-        let _ = self.men();
-        next_in(reach_of(man) & enemies, 0) < 64
+        next_in(reach_of(man) & self.reached(), 0) < 64
     }
 
     /// Appends the legal captures of enemy men on squares that a man attacks. Few men reach one, so that is asked first.
@@ -234,15 +236,13 @@ impl Position {
         &self,
         moves: &mut ArrayVec<Move, CAP>,
         man: &(Man, Color, Square),
-        enemies: u64,
     )
         requires standing { Contains self.now.placed_men man.now }
         requires own { is_color self.now.mover man.now.1 ≡ true }
-        requires enemies { (square : ℕ) → square < 64 → is_in enemies square ≡ list_any (λ s. is_color (other_color self.now.mover) s.1 && s.2 == square) self.now.placed_men }
         requires room { array_vec_len moves.old + length (flat_map (λ t. moves_if (attacks self.now.placed_men man.now t.2) man.now t.2) (men_of (other_color self.now.mover) self.now.placed_men)) ≤ CAP }
         ensures { moves.new.items ≡ moves.old.items ++ filter (is_legal self.now) (flat_map (λ t. moves_if (attacks self.now.placed_men man.now t.2) man.now t.2) (men_of (other_color self.now.mover) self.now.placed_men)) }
     {
-        if !self.reaches_enemy(man, enemies) {
+        if !self.reaches_enemy(man) {
             return;
         }
         let men = self.men();
@@ -279,6 +279,19 @@ impl Position {
     {
         for man in self.men() {
             if self.is_own(man) {
+                self.push_quiet_moves_by(moves, man);
+            }
+        }
+    }
+
+    /// Appends the legal moves of pawns to empty squares.
+    #[tactic(auto, unfolding(crate::specs::Moves::pawn_moves_of))]
+    fn push_pawn_moves<const CAP: usize>(&self, moves: &mut ArrayVec<Move, CAP>)
+        requires { array_vec_len moves.old + length (pawn_moves_of self.now) ≤ CAP }
+        ensures { moves.new.items ≡ moves.old.items ++ filter (is_legal self.now) (pawn_moves_of self.now) }
+    {
+        for man in self.men() {
+            if self.is_own_pawn(man) {
                 self.push_quiet_moves_by(moves, man);
             }
         }
@@ -576,6 +589,13 @@ impl Position {
         ensures { result ≡ is_color self.now.mover man.now.1 }
     {
         self.mover == man.1
+    }
+
+    /// Returns whether a man is a pawn of the mover's.
+    fn is_own_pawn(&self, man: &(Man, Color, Square)) -> bool
+        ensures { result ≡ (is_color self.now.mover man.now.1 && is_man Pawn man.now.0) }
+    {
+        self.is_own(man) && is_man(Man::Pawn, man)
     }
 
     /// Returns whether a man is the other side's.

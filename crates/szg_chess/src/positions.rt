@@ -7,11 +7,12 @@ ghost use Rattle.szg_values.specs.Men.{other_color, file_of, square_at};
 ghost use Rattle.szg_values.specs.Placement.{AreOnBoard, men_key, number_of, has_distinct_squares, has_pawns_on_inner_ranks};
 ghost use Rattle.szg_chess.specs.Attacks.{is_occupied, is_in_check, reaches_other};
 ghost use Rattle.szg_chess.specs.Position.{IsPosition, men_fault, state_fault, position_fault, has_two_to_six, has_kings, without_en_passant, man_on, is_on, was_passed, has_sound_en_passant};
-ghost use Rattle.szg_chess.specs.Squares.{squares_of};
+ghost use Rattle.szg_chess.specs.Squares.{reached_of, squares_of};
 ghost use Rattle.szg_chess.specs.Moves.{is_check};
 
-use crate::attacks::{is_in_check, is_in_check_by, other_color, reaches_other, squares_of};
+use crate::attacks::{is_in_check, is_in_check_by, other_color, reached_by, squares_of};
 use crate::men::few_men;
+use crate::moves::next_in;
 use crate::{Position, PositionFault};
 use szg_values::{
     Color, Man, PlacedMen, Placement, Square, has_distinct_squares, has_pawns_on_inner_ranks,
@@ -55,15 +56,15 @@ impl Position {
             return Err(PositionFault::EnPassant);
         }
         let occupied = squares_of(men);
-        let reaches = reaches_other(men, mover);
-        if is_in_check_by(men, occupied, other_color(mover), mover, reaches) {
+        let reached = reached_by(men, mover);
+        if is_in_check_by(men, occupied, other_color(mover), mover, reached) {
             return Err(PositionFault::OpponentInCheck);
         }
         Ok(Position {
             men: few_men(men),
             occupied,
             key,
-            reaches,
+            reached,
             mover,
             en_passant,
         })
@@ -119,7 +120,7 @@ impl Position {
             men: self.men.copy(),
             occupied: self.occupied(),
             key: self.key(),
-            reaches: self.reaches(),
+            reached: self.reached(),
             mover: self.mover(),
             en_passant: self.en_passant(),
         }
@@ -133,7 +134,7 @@ impl Position {
             men: self.men.copy(),
             occupied: self.occupied(),
             key: self.key(),
-            reaches: self.reaches(),
+            reached: self.reached(),
             mover: self.mover(),
             en_passant: None,
         }
@@ -190,7 +191,15 @@ impl Position {
     pub(crate) fn reaches(&self) -> bool
         ensures { result ≡ reaches_other self.now.placed_men self.now.mover }
     {
-        self.reaches
+        next_in(self.reached(), 0) < 64
+    }
+
+    /// Returns the squares of the enemy men that some man of the side to move would attack on an empty board, as bits.
+    pub(crate) fn reached(&self) -> u64
+        ensures reached { result ≡ reached_of self.now.placed_men self.now.mover }
+        ensures on_board { AreOnBoard self.now.placed_men }
+    {
+        self.reached
     }
 }
 

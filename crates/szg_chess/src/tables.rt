@@ -1,11 +1,13 @@
 //! Tables of squares, as sets of bits: bit n is the square with the number n.
 
-ghost use Rattle.std.specs.Prelude.{◌≡◌, ◌<◌, ◌&&◌, if◌then◌else◌};
+ghost use Rattle.std.specs.Prelude.{ℕ, ◌≡◌, ◌<◌, ◌&&◌, [], if◌then◌else◌};
 ghost use Rattle.szg_values.specs.Men.{is_man, is_color, code_of};
 ghost use Rattle.szg_values.specs.declared.Man.TheVariants.{Pawn};
 ghost use Rattle.szg_values.specs.declared.Color.TheVariants.{Black};
-ghost use Rattle.szg_chess.specs.Squares.{squares_between, reach_of};
+ghost use Rattle.szg_chess.specs.Attacks.{attacks};
+ghost use Rattle.szg_chess.specs.Squares.{is_in, squares_between, reach_of};
 
+use crate::attacks::is_of;
 use szg_values::{Color, Man, Square};
 
 /// Returns the squares that a man attacks on an empty board.
@@ -13,6 +15,26 @@ pub(crate) fn reach_of(man: &(Man, Color, Square)) -> u64
     ensures { result ≡ reach_of man.now }
 {
     REACH[64 * usize::from(reach_number(man.0, man.1)) + usize::from(man.2.number())]
+}
+
+/// The same for a man of this colour; none for one of the other colour, whose sets in `REACH` are empty, so that no branch
+/// depends on the man.
+pub(crate) fn reach_by(color: Color, man: &(Man, Color, Square)) -> u64
+    ensures { (square : ℕ) → square < 64 → is_in result square ≡ (is_color color man.now.1 && attacks [] man.now square) }
+{
+    REACH[64 * usize::from(reach_number_by(color, man)) + usize::from(man.2.number())]
+}
+
+/// Returns the number of a man's sets in `REACH`, that of the empty sets if it is of the other colour.
+fn reach_number_by(color: Color, man: &(Man, Color, Square)) -> u8
+    ensures number { result ≡ (if is_color color man.now.1 then (if is_man Pawn man.now.0 && is_color Black man.now.1 then 0 else code_of man.now.0) else 7) }
+    ensures small { result < 8 }
+{
+    if is_of(color, man) {
+        reach_number(man.0, man.1)
+    } else {
+        7
+    }
 }
 
 /// Returns the number of a man's sets in `REACH`: its code, or 0 for Black's pawn.
@@ -44,8 +66,8 @@ macro_rules! sets {
 }
 
 /// The squares that a man attacks on an empty board: 64 sets for each of Black's pawn, White's pawn, knight, bishop, rook,
-/// queen and king.
-const REACH: [u64; 448] = sets![
+/// queen and king, and at last 64 empty ones.
+const REACH: [u64; 512] = sets![
     0 0 0 0 0 0 0 0 2 5 0xa 0x14 0x28 0x50 0xa0 0x40 0x200 0x500 0xa00 0x1400 0x2800 0x5000 0xa000 0x4000 0x20000
     0x50000 0xa0000 0x140000 0x280000 0x500000 0xa00000 0x400000 0x2000000 0x5000000 0xa000000 0x14000000 0x28000000
     0x50000000 0xa0000000 0x40000000 0x200000000 0x500000000 0xa00000000 0x1400000000 0x2800000000 0x5000000000
@@ -109,6 +131,8 @@ const REACH: [u64; 448] = sets![
     0x302030000000000 0x705070000000000 0xe0a0e0000000000 0x1c141c0000000000 0x3828380000000000 0x7050700000000000
     0xe0a0e00000000000 0xc040c00000000000 0x203000000000000 0x507000000000000 0xa0e000000000000 0x141c000000000000
     0x2838000000000000 0x5070000000000000 0xa0e0000000000000 0x40c0000000000000
+    0 0 0 0 0 0 0 0 0 0 0 0 0 0 0 0 0 0 0 0 0 0 0 0 0 0 0 0 0 0 0 0 0 0 0 0 0 0 0 0 0 0 0 0 0 0 0 0 0 0 0 0 0 0 0 0 0 0
+    0 0 0 0 0 0
 ];
 
 /// The squares strictly between two squares on a line: the set of `from` and `to` has the number `64 * from + to`.

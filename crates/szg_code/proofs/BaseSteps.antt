@@ -21,15 +21,6 @@ values_more f xs count below v j fits count_is old e k from less =
       | inr no_later ↦ let here : k ≡ j = omega arith in get_or-set_at xs j k v 0 here (omega arith) ∙ e ∙ ap f (sym here)
     ]
 
--- the values of a function at the first items of a list, and at one more
-pub values_next : (f : ℕ → ℕ) (xs : List ℕ) (j v : ℕ) → j < length xs →
-    ((k : ℕ) → k < j → get_or xs k 0 ≡ f k) → v ≡ f j → (k : ℕ) → k < j + 1 → get_or (set xs j v) k 0 ≡ f k
-values_next f xs j v fits old e k less =
-    elim (cases_lt k j) [
-      | inl before ↦ let other : k ≢ j = omega arith in get_or-set_other xs j k v 0 other ∙ old k before
-      | inr at ↦ let here : k ≡ j = omega arith in get_or-set_at xs j k v 0 here fits ∙ e ∙ ap f (sym here)
-    ]
-
 -- a property of the first items of a list, and of one more item that is set
 pub items_next : (P : ℕ → ℕ → Type 0) (xs : List ℕ) (j v : ℕ) → j < length xs →
     ((k : ℕ) → k < j → P k (get_or xs k 0)) → P j v → (k : ℕ) → k < j + 1 → P k (get_or (set xs j v) k 0)
@@ -38,6 +29,11 @@ items_next P xs j v fits old holds k less =
       | inl before ↦ let other : k ≢ j = omega arith in subst (P k) (sym (get_or-set_other xs j k v 0 other)) (old k before)
       | inr at ↦ let here : k ≡ j = omega arith in subst (P k) (sym (get_or-set_at xs j k v 0 here fits)) (subst (λ (n : ℕ). P n v) (sym here) holds)
     ]
+
+-- the same for the items from an index on
+pub items_between : (P : ℕ → ℕ → Type 0) (xs : List ℕ) (from j v : ℕ) → j < length xs →
+    ((k : ℕ) → from ≤ k → k < j → P k (get_or xs k 0)) → P j v → (k : ℕ) → from ≤ k → k < j + 1 → P k (get_or (set xs j v) k 0)
+items_between P xs from j v fits old holds k least less = items_next (λ (n m : ℕ). from ≤ n → P n m) xs j v fits (λ n below some. old n some below) (λ _. holds) k less least
 
 module _ (code : CanonicalCode) (lengths : HasLengths code) where
   -- the base at an item of the list, from the base at the next
@@ -115,14 +111,13 @@ module _ (code : CanonicalCode) (accepted : IsCode code) where
       omega (arith, small, p)
 
   -- so shifting it to the top of 64 bits loses no bit
-  pub shift_whole : (j b : ℕ) → j < length code.lowest → b ≡ base code (code.min_length + j) → (b * 2 ^ (64 - code.min_length - j)) % 18446744073709551616 ≡ shifted_base code 64 (code.min_length + j)
+  pub shift_whole : (l b : ℕ) → code.min_length ≤ l → l ≤ code.max_length → b ≡ base code l → (b * 2 ^ (64 - l)) % 18446744073709551616 ≡ shifted_base code 64 l
   unfolding shifted_base
-  shift_whole j b below e =
-      let each : length code.lowest + code.min_length ≡ code.max_length + 1 = accepted.lengths.each in
+  shift_whole l b long short e =
       let most : code.max_length ≤ 32 = accepted.lengths.at_most in
-      let small : base code (code.min_length + j) < 2 ^ (code.min_length + j) = base_below j (omega arith) in
-      let s : 64 - code.min_length - j ≡ 64 - (code.min_length + j) = omega arith in
-      rw (e, s) (shl_whole (base code (code.min_length + j)) (code.min_length + j) (64 - (code.min_length + j)) 64 small (omega arith))
+      let at : code.min_length + (l - code.min_length) ≡ l = omega arith in
+      let small : base code l < 2 ^ l = rw at at (base_below (l - code.min_length) (omega arith)) in
+      rw e (shl_whole (base code l) l (64 - l) 64 small (omega arith))
 
 module _ (code : CanonicalCode) (lengths : HasLengths code) (ordered : (j : ℕ) → IsOrderedAt code j) where
   -- of two items that were compared, the later is not above the earlier

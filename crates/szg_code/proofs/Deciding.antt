@@ -1,11 +1,11 @@
 -- The functions that find the first fault of the lowest symbols, related to the rules of accepted codes.
-use Rattle.std.proofs.Common.{ℕ, zero, suc, Bool, true, false, cond, ◌≡◌, ◌+◌, ◌-◌, ◌*◌, ◌/◌, ◌^◌, ◌<◌, ◌≤◌, ◌⊎◌, inl, inr, Option, Some, None, List, length, refl, ap, sym, ◌∙◌, subst, arith, nat_lt, nat_le, ◌&&◌}
+use Rattle.std.proofs.Common.{ℕ, zero, suc, Bool, true, false, cond, ◌≡◌, ◌+◌, ◌-◌, ◌*◌, ◌/◌, ◌%◌, ◌^◌, ◌<◌, ◌≤◌, ◌⊎◌, inl, inr, Option, Some, None, List, length, refl, ap, sym, ◌∙◌, subst, arith, nat_lt, nat_le, ◌&&◌}
 use Rattle.std.specs.List.{find, range_with_len, slice_index}
 use Rattle.std.proofs.lemmas.Bool.{ltb-true, ltb-false, lt-ltb, leb-true, le-leb, cases_lt, and_parts}
 use Rattle.szg_code.specs.Canonical.{CanonicalCode, base, base_below_max, lowest_of}
 use Rattle.szg_code.specs.Acceptance.{HasLengths, IsOrderedAt, HasRoomAt, IsCode, IsFirstRise, IsLastOverfull, IsOverfullAtLeast, IsCodeFault}
 use Rattle.szg_code.specs.declared.CodeFault.TheVariants.{LowestOrder, TooFull}
-use Rattle.szg_code.specs.Least.{shifted_base, IsStart, HasShiftedBases, HasStarts}
+use Rattle.szg_code.specs.Least.{shifted_base, zero_symbol, IsStart, HasShiftedBases, HasStarts, HasZeroSymbols}
 use Rattle.szg_code.specs.FirstFault.{rises_at, first_rise, overfills_below_max, overfull_item, first_overfull}
 use Rattle.szg_pairs.proofs.FirstFound.{find_none, find_some}
 
@@ -145,18 +145,25 @@ shifted_base-symbols : (code : CanonicalCode) (n l : ℕ) → shifted_base (with
 unfolding shifted_base
 shifted_base-symbols code n l = ap (λ (b : ℕ). b * 2 ^ (64 - l)) (base-symbols code n l)
 
-start-symbols : (code : CanonicalCode) (n first index : ℕ) → IsStart code first index → IsStart (with_symbols code n) first index
-start-symbols code n first index start = record {
-  inside = start.inside;
-  before = λ k earlier. subst (λ (b : ℕ). (first + 1) * 2 ^ 56 ≤ b) (sym (shifted_base-symbols code n (code.min_length + k))) (start.before k earlier);
-  reached = subst (λ (b : ℕ). b < (first + 1) * 2 ^ 56) (sym (shifted_base-symbols code n (code.min_length + index))) start.reached;
+start-symbols : (code : CanonicalCode) (n first l : ℕ) → IsStart code first l → IsStart (with_symbols code n) first l
+start-symbols code n first l start = record {
+  long_enough = start.long_enough;
+  short_enough = start.short_enough;
+  before = λ k long earlier. subst (λ (b : ℕ). (first + 1) * 2 ^ 56 ≤ b) (sym (shifted_base-symbols code n k)) (start.before k long earlier);
+  reached = subst (λ (b : ℕ). b < (first + 1) * 2 ^ 56) (sym (shifted_base-symbols code n l)) start.reached;
 }
 
+zero_symbol-symbols : (code : CanonicalCode) (n l : ℕ) → zero_symbol (with_symbols code n) l ≡ zero_symbol code l
+unfolding zero_symbol lowest_of
+zero_symbol-symbols code n l = ap (λ (b : ℕ). (slice_index code.lowest (l - code.min_length) + (2 ^ 64 - b)) % 2 ^ 64) (base-symbols code n l)
+
 -- the fields of a code also fit a code with another number of symbols
-pub kept-symbols : (code : CanonicalCode) (n : ℕ) (bases starts : List ℕ) → IsCode code × HasShiftedBases code bases × HasStarts code starts →
-    IsCode (with_symbols code n) × HasShiftedBases (with_symbols code n) bases × HasStarts (with_symbols code n) starts
-kept-symbols code n bases starts (accepted, has_bases, has_starts) = (
+pub kept-symbols : (code : CanonicalCode) (n : ℕ) (bases starts zeros : List ℕ) → IsCode code × HasShiftedBases code bases × HasStarts code starts × HasZeroSymbols code zeros →
+    IsCode (with_symbols code n) × HasShiftedBases (with_symbols code n) bases × HasStarts (with_symbols code n) starts × HasZeroSymbols (with_symbols code n) zeros
+unfolding lowest_of
+kept-symbols code n bases starts zeros (accepted, has_bases, has_starts, has_zeros) = (
   IsCode-symbols (with_symbols code n) code.symbols accepted,
-  (λ j there. has_bases j there ∙ sym (shifted_base-symbols code n (code.min_length + j))),
+  (λ l long short. has_bases l long short ∙ sym (shifted_base-symbols code n l)),
   (λ first below. start-symbols code n first (slice_index starts first) (has_starts first below)),
+  (λ l long short. ((has_zeros l long short).0, (has_zeros l long short).1 ∙ sym (zero_symbol-symbols code n l))),
 )

@@ -1,17 +1,18 @@
 -- What the words of a length, and the leading bits, say about a code's symbols.
-use Rattle.std.proofs.Common.{ℕ, Bool, ◌≡◌, ◌+◌, ◌-◌, ◌*◌, ◌/◌, ◌%◌, ◌^◌, ◌<◌, ◌≤◌, List, ◌++◌, length, get_or, take, drop, ap, sym, ◌∙◌, arith}
-use Rattle.std.proofs.lemmas.Nat.{shl-shr, pow_pos, div-add-mod', mod_below, div-mul-add}
+use Rattle.std.proofs.Common.{ℕ, Bool, ◌≡◌, ◌+◌, ◌-◌, ◌/◌, ◌%◌, ◌^◌, ◌<◌, ◌≤◌, inl, inr, List, ◌++◌, length, get_or, take, drop, refl, ap, sym, ◌∙◌, arith}
+use Rattle.std.proofs.lemmas.Bool.{cases_lt}
+use Rattle.std.proofs.lemmas.Nat.{shl-shr, pow_pos}
 use Rattle.std.proofs.Math.Nat.{zero-mul, pow-le-pow_right, le-div_iff_mul-le}
 use Rattle.std.proofs.lemmas.List.{append_cancel_right, take-append-drop}
 use Rattle.szg_code.specs.Bits.{bits_of_number, number}
 use Rattle.szg_code.specs.Canonical.{CanonicalCode, IsWord, base, top, lowest_of, symbol_at}
 use Rattle.szg_code.specs.Acceptance.{IsCode}
 use Rattle.szg_code.specs.Cursor.{Cursor, TakesWord}
-use Rattle.szg_code.specs.Least.{IsLeastLength, symbol_of_prefix, shifted_base}
+use Rattle.szg_code.specs.Least.{IsLeastLength, symbol_of_prefix, shifted_base, zero_symbol}
 use Rattle.szg_code.proofs.Numbers.{length-bits_of_number, number-bits_of_number, mod-small}
 use Rattle.szg_code.proofs.Reading.{word_of_least_length}
 use Rattle.szg_code.proofs.Spelled.{top-fits}
-use Rattle.szg_code.proofs.BaseSteps.{base_at_last}
+use Rattle.szg_code.proofs.Words.{base-max}
 
 module _ (code : CanonicalCode) where
   pub symbol_of_prefix-is : (xs : List Bool) (l n : ℕ) → n ≡ number (take l xs) → symbol_at code l n ≡ symbol_of_prefix code xs l
@@ -31,43 +32,46 @@ module _ (code : CanonicalCode) where
       let is' : s ≡ get_or code.lowest j 0 + number word - base code l = rw (long, index_is) at is in
       (omega arith, omega arith)
 
-  -- the part of a window above a shifted base, reduced to the length's bits
-  pub above-is : (j window b : ℕ) → b ≡ shifted_base code 64 (code.min_length + j) → b ≤ window →
-      ((window - b) / 2 ^ (64 - code.min_length - j) ≡ window / 2 ^ (64 - (code.min_length + j)) - base code (code.min_length + j)) × (base code (code.min_length + j) ≤ window / 2 ^ (64 - (code.min_length + j)))
+  -- a window at or above a shifted base: its leading bits are a number at or above the base
+  pub reaches_base : (l window : ℕ) → shifted_base code 64 l ≤ window → base code l ≤ window / 2 ^ (64 - l)
   unfolding shifted_base
-  above-is j window b is reaches =
-      let l : ℕ = code.min_length + j in
-      let m : ℕ = 2 ^ (64 - l) in
-      let s : 64 - code.min_length - j ≡ 64 - l = omega arith in
-      let fits : base code l * m ≤ window = omega arith in
-      let q : base code l ≤ window / m = (le-div_iff_mul-le {k = m} {x = base code l} {y = window} (pow_pos (64 - l))).1 fits in
-      let d : ℕ = window / m - base code l in
-      let parts : window / m * m + window % m ≡ window = div-add-mod' window m in
-      let rest : window % m < m = mod_below window m (pow_pos (64 - l)) in
-      let whole : window / m ≡ base code l + d = omega arith in
-      let w : (base code l + d) * m + window % m ≡ window = rw whole at parts in
-      let e : window - b ≡ d * m + window % m = omega arith in
-      (rw (s, e) (div-mul-add d m (window % m) rest), q)
+  reaches_base l window reaches = (le-div_iff_mul-le {k = 2 ^ (64 - l)} {x = base code l} {y = window} (pow_pos (64 - l))).1 reaches
 
-  -- the symbol of a number, from the lowest symbol of its length
-  pub symbol_at-is : (j l v low b : ℕ) → l ≡ code.min_length + j → low ≡ get_or code.lowest j 0 → b ≡ base code (code.min_length + j) → b ≤ v → low + (v - b) ≡ symbol_at code l v
-  unfolding symbol_at lowest_of
-  symbol_at-is j l v low b at low_is b_is reaches =
-      let index_is : code.min_length + j - code.min_length ≡ j = omega arith in
-      rw (at, index_is) (omega arith)
+  -- the symbol of a number, from the symbol that the number 0 would have
+  pub zero_symbol-add : (l v : ℕ) → lowest_of code l < 2 ^ 16 → base code l ≤ v → v < 2 ^ 32 → (zero_symbol code l + v) % 18446744073709551616 ≡ symbol_at code l v
+  unfolding zero_symbol symbol_at
+  zero_symbol-add l v small reaches fits = omega (arith, small, reaches, fits)
+
+  -- from the lowest symbol of a length, and its base
+  pub zero_symbol-is : (l low b : ℕ) → low ≡ get_or code.lowest (l - code.min_length) 0 → low < 2 ^ 16 → b ≡ base code l → (lowest_of code l < 2 ^ 16) × ((low + (18446744073709551616 - b)) % 18446744073709551616 ≡ zero_symbol code l)
+  unfolding zero_symbol lowest_of
+  zero_symbol-is l low b low_is small b_is = (omega (arith, low_is, small), rw (low_is, b_is) refl)
+
+  -- the base of the greatest length is 0
+  pub shifted_max : shifted_base code 64 code.max_length ≡ 0
+  unfolding shifted_base
+  shifted_max = let e : base code code.max_length ≡ 0 = base-max code in rw e (zero-mul (2 ^ (64 - code.max_length)))
+
+  -- below the shifted bases up to a length, a window may reach the base of a greater length
+  pub next_length : (window l : ℕ) → l ≤ code.max_length → window < shifted_base code 64 l → ((k : ℕ) → code.min_length ≤ k → k < l → window < shifted_base code 64 k) →
+      (l + 1 ≤ code.max_length) × ((k : ℕ) → code.min_length ≤ k → k < l + 1 → window < shifted_base code 64 k)
+  next_length window l short below before = (
+    elim (cases_lt l code.max_length) [
+      | inl less ↦ omega (arith, less)
+      | inr last ↦ let here : l ≡ code.max_length = omega (arith, short, last) in absurd (let z = shifted_max in let b : window < shifted_base code 64 code.max_length = rw here at below in omega (arith, z, b))
+    ],
+    λ k long less.
+        elim (cases_lt k l) [
+          | inl earlier ↦ before k long earlier
+          | inr no_earlier ↦ let here : k ≡ l = omega (arith, less, no_earlier) in rw here below
+        ],
+  )
+
+  pub shifted_back : (l : ℕ) → shifted_base code 64 l / 2 ^ (64 - l) ≡ base code l
+  unfolding shifted_base
+  shifted_back l = shl-shr (base code l) (64 - l)
 
 module _ (code : CanonicalCode) (accepted : IsCode code) where
-  -- the base of the greatest length is 0
-  pub shifted_last : (j : ℕ) → j + 1 ≡ length code.lowest → shifted_base code 64 (code.min_length + j) ≡ 0
-  unfolding shifted_base
-  shifted_last j last = let e : base code (code.min_length + j) ≡ 0 = base_at_last code accepted.lengths j last in rw e (zero-mul (2 ^ (64 - (code.min_length + j))))
-
-  pub shifted_back : (j : ℕ) → shifted_base code 64 (code.min_length + j) / 2 ^ (64 - code.min_length - j) ≡ base code (code.min_length + j)
-  unfolding shifted_base
-  shifted_back j =
-      let e : 64 - code.min_length - j ≡ 64 - (code.min_length + j) = omega arith in
-      rw e (shl-shr (base code (code.min_length + j)) (64 - (code.min_length + j)))
-
   -- numbers have at most 32 bits
   pub number_fits : (j : ℕ) → j < length code.lowest → top code (code.min_length + j) ≤ 2 ^ 32
   number_fits j inside =

@@ -1,9 +1,8 @@
 -- Laws of a reader's window: what it decides, and how it advances.
-use Rattle.std.proofs.Common.{ℕ, zero, suc, Bool, false, ◌≡◌, ◌+◌, ◌-◌, ◌*◌, ◌/◌, ◌%◌, ◌^◌, ◌<◌, ◌≤◌, inl, inr, List, [], ◌∷◌, ◌++◌, length, get_or, take, drop, replicate, refl, ap, sym, ◌∙◌, subst, arith, length-append}
-use Rattle.std.specs.Prelude.{bit_or}
+use Rattle.std.proofs.Common.{ℕ, zero, suc, Bool, false, ◌≡◌, ◌+◌, ◌-◌, ◌*◌, ◌/◌, ◌%◌, ◌^◌, ◌<◌, ◌≤◌, inl, inr, List, [], ◌∷◌, ◌++◌, length, get_or, take, drop, replicate, refl, ap, sym, ◌∙◌, subst, arith, length-append, length-drop}
 use Rattle.std.proofs.lemmas.Bool.{cases_lt}
-use Rattle.std.proofs.lemmas.Nat.{pow-add, shl_whole, shl_below, or_shifted, mod_low}
-use Rattle.std.proofs.lemmas.List.{take-append-le, take_all, length-replicate, drop-drop, get_or-take, get_or-drop, drop_all}
+use Rattle.std.proofs.lemmas.Nat.{pow-add, shl_below, mod_low}
+use Rattle.std.proofs.lemmas.List.{take-append-le, take_all, length-replicate, drop-drop, get_or-drop, drop_all}
 use Rattle.byteorder.specs.Endian.{big_from}
 use Rattle.byteorder.proofs.Bytes.{pow256}
 use Rattle.szg_code.specs.Bits.{bits, number}
@@ -87,6 +86,32 @@ moved xs e l n total =
     let j : number (padded (64 - e) xs) * 2 ^ e * 2 ^ l ≡ a * 2 ^ 64 + b * k = rw (whole, p', q) (omega arith) in
     ap (λ (m : ℕ). m % 2 ^ 64) j ∙ mod_low a 64 (b * k) fits'
 
+-- more zeros after bits of which none are left
+number-padded_nil : (n : ℕ) → number (padded n []) ≡ 0
+number-padded_nil zero = refl
+number-padded_nil (suc n) = let h = number-padded_nil n in omega (arith, h)
+
+number-padded_more : (n k : ℕ) (xs : List Bool) → length xs ≤ n → number (padded (n + k) xs) ≡ number (padded n xs) * 2 ^ k
+number-padded_more n k xs short =
+    let d : drop n xs ≡ [] = drop_all n xs short in
+    let len : length (padded k []) ≡ k = length-padded k [] in
+    let zeros : number (padded k []) ≡ 0 = number-padded_nil k in
+    let a : number (padded n xs ++ padded k []) ≡ number (padded n xs) * 2 ^ length (padded k []) + number (padded k []) = number-append (padded n xs) (padded k []) in
+    let a' : number (padded n xs ++ padded k []) ≡ number (padded n xs) * 2 ^ k + 0 = rw (len, zeros) at a in
+    ap (λ (u : List Bool). number u) (padded-add n k xs) ∙ ap (λ (u : List Bool). number (padded n xs ++ padded k u)) d ∙ a' ∙ omega arith
+
+-- at most 64 bits, without the first of them
+pub number-shifted : (xs : List Bool) (l : ℕ) → l ≤ 64 → length xs ≤ 64 → number (padded 64 xs) * 2 ^ l % 18446744073709551616 ≡ number (padded 64 (drop l xs))
+number-shifted xs l fits few =
+    let m : number (padded 64 xs) * 2 ^ 0 * 2 ^ l % 2 ^ 64 ≡ number (padded (64 - l) (drop l xs)) * 2 ^ (0 + l) = moved xs 0 l (64 - l) (omega arith) in
+    let one : number (padded 64 xs) * 2 ^ 0 ≡ number (padded 64 xs) = omega arith in
+    let z : 0 + l ≡ l = omega arith in
+    let m' : number (padded 64 xs) * 2 ^ l % 2 ^ 64 ≡ number (padded (64 - l) (drop l xs)) * 2 ^ l = rw (one, z) at m in
+    let short : length (drop l xs) ≤ 64 - l = let d = length-drop l xs in omega (arith, d, few) in
+    let whole : 64 - l + l ≡ 64 = omega arith in
+    let p : number (padded (64 - l + l) (drop l xs)) ≡ number (padded (64 - l) (drop l xs)) * 2 ^ l = number-padded_more (64 - l) l (drop l xs) short in
+    m' ∙ sym p ∙ ap (λ (n : ℕ). number (padded n (drop l xs))) whole
+
 -- ---- what the window decides
 
 -- all 64 bits of the window: the bits that were read but not taken, then zeros
@@ -144,31 +169,19 @@ module _ (code : CanonicalCode) (accepted : IsCode code) (bytes : List ℕ) (off
             ];
       }
 
-  before_lengths : (j : ℕ) → ((k : ℕ) → k < j → window < shifted_base code 64 (code.min_length + k)) → (k : ℕ) → code.min_length ≤ k → k < code.min_length + j → window < shifted_base code 64 k
-  before_lengths j before k from less =
-      let same : code.min_length + (k - code.min_length) ≡ k = omega arith in
-      let b : window < shifted_base code 64 (code.min_length + (k - code.min_length)) = before (k - code.min_length) (omega arith) in
-      rw same at b
-
   -- it is the least length of the bits left, if there are enough of them
-  pub IsLeastLength-of_window : (j : ℕ) → j < length code.lowest → shifted_base code 64 (code.min_length + j) ≤ window →
-      ((k : ℕ) → k < j → window < shifted_base code 64 (code.min_length + k)) → code.min_length + j ≤ length (drop offset (bits bytes)) → IsLeastLength code (drop offset (bits bytes)) (code.min_length + j)
-  IsLeastLength-of_window j within reaches before inside =
-      let each : length code.lowest + code.min_length ≡ code.max_length + 1 = accepted.lengths.each in
-      let most : code.max_length ≤ 32 = accepted.lengths.at_most in
-      let l : ℕ = code.min_length + j in
+  pub IsLeastLength-of_window : (l : ℕ) → code.min_length ≤ l → l ≤ code.max_length → shifted_base code 64 l ≤ window →
+      ((k : ℕ) → code.min_length ≤ k → k < l → window < shifted_base code 64 k) → l ≤ length (drop offset (bits bytes)) → IsLeastLength code (drop offset (bits bytes)) l
+  IsLeastLength-of_window l long short reaches before inside =
       let left : List Bool = drop offset (bits bytes) in
-      least_length_of_window code (window_bits left e) left l (least_of_window l (omega arith) (omega arith) reaches (before_lengths j before)) inside (window_bits-take left e l (omega arith) inside)
+      least_length_of_window code (window_bits left e) left l (least_of_window l long short reaches before) inside (window_bits-take left e l (omega arith) inside)
 
   -- and if there are fewer, they reach no base
-  pub ReachesNoBase-of_window : (j : ℕ) → j < length code.lowest → shifted_base code 64 (code.min_length + j) ≤ window →
-      ((k : ℕ) → k < j → window < shifted_base code 64 (code.min_length + k)) → length (drop offset (bits bytes)) < code.min_length + j → ReachesNoBase code (drop offset (bits bytes))
-  ReachesNoBase-of_window j within reaches before past =
-      let each : length code.lowest + code.min_length ≡ code.max_length + 1 = accepted.lengths.each in
-      let most : code.max_length ≤ 32 = accepted.lengths.at_most in
-      let l : ℕ = code.min_length + j in
+  pub ReachesNoBase-of_window : (l : ℕ) → code.min_length ≤ l → l ≤ code.max_length → shifted_base code 64 l ≤ window →
+      ((k : ℕ) → code.min_length ≤ k → k < l → window < shifted_base code 64 k) → length (drop offset (bits bytes)) < l → ReachesNoBase code (drop offset (bits bytes))
+  ReachesNoBase-of_window l long short reaches before past =
       let left : List Bool = drop offset (bits bytes) in
-      no_base_of_window code (window_bits left e) left l (least_of_window l (omega arith) (omega arith) reaches (before_lengths j before)) past
+      no_base_of_window code (window_bits left e) left l (least_of_window l long short reaches before) past
       (window_bits-take left e (length left) (omega arith) (omega arith) ∙ take_all (length left) left (omega arith))
 
 -- the number of the first bits left
@@ -184,15 +197,12 @@ number-of_window bytes offset window e l r room inside =
     sym t' ∙ ap (λ (u : List Bool). number u) (window_bits-take left e l room inside)
 
 -- the bits left begin at the offset, and the window decides the length and the symbol of their first word
-pub decided : (code : CanonicalCode) → IsCode code → (bytes : List ℕ) (offset window e : ℕ) → IsWindow bytes offset window e → code.max_length + e ≤ 64 → (left : List Bool) → drop offset (bits bytes) ≡ left → (j : ℕ) → j < length code.lowest →
-    shifted_base code 64 (code.min_length + j) ≤ window → ((k : ℕ) → k < j → window < shifted_base code 64 (code.min_length + k)) → code.min_length + j ≤ length left →
-    IsLeastLength code left (code.min_length + j) × (symbol_at code (code.min_length + j) (window / 2 ^ (64 - (code.min_length + j))) ≡ symbol_of_prefix code left (code.min_length + j))
-decided code accepted bytes offset window e r room left is j within reaches before inside =
-    let l : ℕ = code.min_length + j in
-    let each : length code.lowest + code.min_length ≡ code.max_length + 1 = accepted.lengths.each in
-    let most : code.max_length ≤ 32 = accepted.lengths.at_most in
+pub decided : (code : CanonicalCode) → IsCode code → (bytes : List ℕ) (offset window e : ℕ) → IsWindow bytes offset window e → code.max_length + e ≤ 64 → (left : List Bool) → drop offset (bits bytes) ≡ left → (l : ℕ) → code.min_length ≤ l → l ≤ code.max_length →
+    shifted_base code 64 l ≤ window → ((k : ℕ) → code.min_length ≤ k → k < l → window < shifted_base code 64 k) → l ≤ length left →
+    IsLeastLength code left l × (symbol_at code l (window / 2 ^ (64 - l)) ≡ symbol_of_prefix code left l)
+decided code accepted bytes offset window e r room left is l long short reaches before inside =
     let inside' : l ≤ length (drop offset (bits bytes)) = rw is inside in
-    let h = IsLeastLength-of_window code accepted bytes offset window e r room j within reaches before inside' in
+    let h = IsLeastLength-of_window code accepted bytes offset window e r room l long short reaches before inside' in
     let v = number-of_window bytes offset window e l r (omega arith) inside' in
     let s = symbol_of_prefix-is code (drop offset (bits bytes)) l (window / 2 ^ (64 - l)) v in
     (subst (λ (u : List Bool). IsLeastLength code u l) is h, s ∙ ap (λ (u : List Bool). symbol_of_prefix code u l) is)
@@ -223,6 +233,10 @@ pub HoldsBits-read : (bytes : List ℕ) (offset read : ℕ) → read ≡ number 
     HoldsBits bytes offset (read * 2 ^ (offset % 8) % 18446744073709551616) 57
 HoldsBits-read bytes offset read read_is = record { spare = offset % 8; room = omega arith; is_window = IsWindow-shifted bytes offset read read_is }
 
+-- a window that holds fewer bits
+pub HoldsBits-fewer : (bytes : List ℕ) (offset window held fewer : ℕ) → HoldsBits bytes offset window held → fewer ≤ held → HoldsBits bytes offset window fewer
+HoldsBits-fewer bytes offset window held fewer h less = let room = h.room in record { spare = h.spare; room = omega (arith, room, less); is_window = h.is_window }
+
 -- a window from a later offset on
 pub HoldsBits-moved : (bytes : List ℕ) (offset window held l most : ℕ) → HoldsBits bytes offset window held → l ≤ most → most ≤ held →
     HoldsBits bytes (offset + l) (window * 2 ^ l % 18446744073709551616) (held - most)
@@ -243,37 +257,21 @@ HoldsBits-moved bytes offset window held l most h short enough =
 pub number-u64 : (bytes : List ℕ) (at : ℕ) → ((k : ℕ) → get_or bytes k 0 < 256) → number (padded 64 (drop (8 * at) (bits bytes))) ≡ big_from at 8 bytes
 number-u64 bytes at fit = ap (λ (u : List Bool). number (padded 64 u)) (drop-bits at bytes) ∙ number-padded_bits 8 bytes at fit
 
--- two numbers of four bytes, one after the other
-pub number-halves : (bytes : List ℕ) (at first second : ℕ) → first ≡ number (padded 32 (drop (8 * at) (bits bytes))) → second ≡ number (padded 32 (drop (8 * (at + 4)) (bits bytes))) →
-    bit_or (first * 2 ^ 32 % 18446744073709551616) second ≡ number (padded 64 (drop (8 * at) (bits bytes)))
-number-halves bytes at first second first_is second_is =
-    let xs : List Bool = drop (8 * at) (bits bytes) in
-    let there : 32 + 8 * at ≡ 8 * (at + 4) = omega arith in
-    let d : drop 32 xs ≡ drop (8 * (at + 4)) (bits bytes) = drop-drop 32 (8 * at) (bits bytes) ∙ ap (λ (k : ℕ). drop k (bits bytes)) (omega arith) in
-    let second_is' : second ≡ number (padded 32 (drop 32 xs)) = second_is ∙ ap (λ (u : List Bool). number (padded 32 u)) (sym d) in
-    let len : length (padded 32 (drop 32 xs)) ≡ 32 = length-padded 32 (drop 32 xs) in
-    let below : number (padded 32 (drop 32 xs)) < 2 ^ length (padded 32 (drop 32 xs)) = number-below (padded 32 (drop 32 xs)) in
-    let small : second < 2 ^ 32 = rw (len, ← second_is') at below in
-    let len' : length (padded 32 xs) ≡ 32 = length-padded 32 xs in
-    let below' : number (padded 32 xs) < 2 ^ length (padded 32 xs) = number-below (padded 32 xs) in
-    let small' : first < 2 ^ 32 = rw (len', ← first_is) at below' in
-    let whole : first * 2 ^ 32 % 2 ^ 64 ≡ first * 2 ^ 32 = shl_whole first 32 32 64 small' (omega arith) in
-    let joined : bit_or (first * 2 ^ 32) second ≡ first * 2 ^ 32 + second = or_shifted first 32 second small in
-    let a : number (padded 32 xs ++ padded 32 (drop 32 xs)) ≡ number (padded 32 xs) * 2 ^ length (padded 32 (drop 32 xs)) + number (padded 32 (drop 32 xs)) = number-append (padded 32 xs) (padded 32 (drop 32 xs)) in
-    let a' : number (padded 32 xs ++ padded 32 (drop 32 xs)) ≡ first * 2 ^ 32 + second = rw (len, ← first_is, ← second_is') at a in
-    let wanted : number (padded 64 xs) ≡ first * 2 ^ 32 + second = ap (λ (u : List Bool). number u) (padded-add 32 32 xs) ∙ a' in
-    ap (λ (k : ℕ). bit_or k second) whole ∙ joined ∙ sym wanted
+-- eight bytes that are read from a slice
+pub number-read : (bytes : List ℕ) (at : ℕ) → ((k : ℕ) → get_or bytes k 0 < 256) → big_from 0 8 (take (length bytes - at) (drop at bytes)) ≡ number (padded 64 (drop (8 * at) (bits bytes)))
+number-read bytes at fit =
+    let ys : List ℕ = drop at bytes in
+    let whole : take (length bytes - at) ys ≡ ys = take_all (length bytes - at) ys (let d = length-drop at bytes in omega (arith, d)) in
+    let fit' : (k : ℕ) → get_or ys k 0 < 256 = λ k. let f = fit (at + k) in let g = get_or-drop at bytes k 0 in omega (arith, f, g) in
+    ap (λ (u : List ℕ). big_from 0 8 u) whole ∙ sym (number-padded_bits 8 ys 0 fit') ∙ ap (λ (u : List Bool). number (padded 64 u)) (sym (drop-bits at bytes))
 
-pub number-u32 : (bytes : List ℕ) (at : ℕ) → ((k : ℕ) → get_or bytes k 0 < 256) → number (padded 32 (drop (8 * at) (bits bytes))) ≡ big_from at 4 bytes
-number-u32 bytes at fit = ap (λ (u : List Bool). number (padded 32 u)) (drop-bits at bytes) ∙ number-padded_bits 4 bytes at fit
-
-pub big_from-four : (xs : List ℕ) (at : ℕ) → big_from at 4 xs ≡ get_or xs at 0 * 16777216 + (get_or xs (at + 1) 0 * 65536 + (get_or xs (at + 2) 0 * 256 + get_or xs (at + 3) 0))
-big_from-four xs at =
-    let a : get_or xs (suc at) 0 ≡ get_or xs (at + 1) 0 = ap (λ (k : ℕ). get_or xs k 0) (omega arith) in
-    let b : get_or xs (suc (suc at)) 0 ≡ get_or xs (at + 2) 0 = ap (λ (k : ℕ). get_or xs k 0) (omega arith) in
-    let c : get_or xs (suc (suc (suc at))) 0 ≡ get_or xs (at + 3) 0 = ap (λ (k : ℕ). get_or xs k 0) (omega arith) in
-    omega (arith, a, b, c)
-
--- an item of the slice from an offset on
-pub item_from : (xs : List ℕ) (at k : ℕ) → at + k < length xs → get_or (take (length xs - at) (drop at xs)) k 0 ≡ get_or xs (at + k) 0
-item_from xs at k inside = get_or-take (length xs - at) (drop at xs) k 0 (omega arith) ∙ get_or-drop at xs k 0
+pub big_from-eight : (xs : List ℕ) (at : ℕ) → big_from at 8 xs ≡ big_from 0 8 (get_or xs at 0 ∷ get_or xs (at + 1) 0 ∷ get_or xs (at + 2) 0 ∷ get_or xs (at + 3) 0 ∷ get_or xs (at + 4) 0 ∷ get_or xs (at + 5) 0 ∷ get_or xs (at + 6) 0 ∷ get_or xs (at + 7) 0 ∷ [])
+big_from-eight xs at =
+    let a1 : suc at ≡ at + 1 = omega arith in
+    let a2 : suc (suc at) ≡ at + 2 = omega arith in
+    let a3 : suc (suc (suc at)) ≡ at + 3 = omega arith in
+    let a4 : suc (suc (suc (suc at))) ≡ at + 4 = omega arith in
+    let a5 : suc (suc (suc (suc (suc at)))) ≡ at + 5 = omega arith in
+    let a6 : suc (suc (suc (suc (suc (suc at))))) ≡ at + 6 = omega arith in
+    let a7 : suc (suc (suc (suc (suc (suc (suc at)))))) ≡ at + 7 = omega arith in
+    rw (a7, a6, a5, a4, a3, a2, a1) refl

@@ -1,8 +1,8 @@
 -- How a reader finds the word that begins the bits: the least length at which the number of the leading bits is at
 -- least the base.
-use Rattle.std.specs.Prelude.{ℕ, Bool, ◌≡◌, ◌+◌, ◌-◌, ◌*◌, ◌^◌, ◌<◌, ◌≤◌, List, length, take, slice_index}
+use Rattle.std.specs.Prelude.{ℕ, Bool, ◌≡◌, ◌+◌, ◌-◌, ◌*◌, ◌%◌, ◌^◌, ◌<◌, ◌≤◌, List, length, take, slice_index}
 use Rattle.szg_code.specs.Bits.{number}
-use Rattle.szg_code.specs.Canonical.{CanonicalCode, base, symbol_at}
+use Rattle.szg_code.specs.Canonical.{CanonicalCode, base, lowest_of, symbol_at}
 
 -- l is the least length at which the number of the first l bits is at least the base of l
 pub record IsLeastLength (code : CanonicalCode) (bits : List Bool) (l : ℕ) : Type 0 where
@@ -28,16 +28,25 @@ shifted_base code window l = base code l * 2 ^ (window - l)
 abbrev pub HasBases : CanonicalCode → List ℕ → Type 0
 HasBases code bases = (j : ℕ) → j < length code.lowest → slice_index bases j ≡ base code (code.min_length + j)
 
--- the list contains the same bases, each shifted to the top of a 64-bit window
+-- the list contains each base, shifted to the top of a 64-bit window, at the index of its length
 abbrev pub HasShiftedBases : CanonicalCode → List ℕ → Type 0
-HasShiftedBases code bases = (j : ℕ) → j < length code.lowest → slice_index bases j ≡ shifted_base code 64 (code.min_length + j)
+HasShiftedBases code bases = (l : ℕ) → code.min_length ≤ l → l ≤ code.max_length → slice_index bases l ≡ shifted_base code 64 l
 
--- the index of the first length whose base is reached by some 64-bit window with this first byte
-pub record IsStart (code : CanonicalCode) (first index : ℕ) : Type 0 where
-  pub inside : index < length code.lowest
-  pub before : (k : ℕ) → k < index → (first + 1) * 2 ^ 56 ≤ shifted_base code 64 (code.min_length + k)
-  pub reached : shifted_base code 64 (code.min_length + index) < (first + 1) * 2 ^ 56
+-- the symbol that the number 0 of a length would have, modulo 2^64
+unfoldable pub zero_symbol : CanonicalCode → ℕ → ℕ
+zero_symbol code l = (lowest_of code l + (2 ^ 64 - base code l)) % 2 ^ 64
 
--- the list has this index for each first byte
+-- the list contains this symbol at the index of each length, and lowest symbols have at most 16 bits
+abbrev pub HasZeroSymbols : CanonicalCode → List ℕ → Type 0
+HasZeroSymbols code symbols = (l : ℕ) → code.min_length ≤ l → l ≤ code.max_length → (lowest_of code l < 2 ^ 16) × (slice_index symbols l ≡ zero_symbol code l)
+
+-- the first length whose base is reached by some 64-bit window with this first byte
+pub record IsStart (code : CanonicalCode) (first l : ℕ) : Type 0 where
+  pub long_enough : code.min_length ≤ l
+  pub short_enough : l ≤ code.max_length
+  pub before : (k : ℕ) → code.min_length ≤ k → k < l → (first + 1) * 2 ^ 56 ≤ shifted_base code 64 k
+  pub reached : shifted_base code 64 l < (first + 1) * 2 ^ 56
+
+-- the list has this length for each first byte
 abbrev pub HasStarts : CanonicalCode → List ℕ → Type 0
 HasStarts code starts = (first : ℕ) → first < 256 → IsStart code first (slice_index starts first)

@@ -19,8 +19,8 @@ pub record HoldsBits (bytes : List ℕ) (offset window held : ℕ) : Type 0 wher
   pub room : held + spare ≤ 64
   pub is_window : IsWindow bytes offset window spare
 
--- the fields of a reader are valid
+-- the fields of a reader are valid; it is past the end of the bytes by at most a window
 pub record IsWordReader (bytes : List ℕ) (offset window held : ℕ) : Type 0 where
   pub fits : length bytes ≤ 2 ^ 60
-  pub inside : offset ≤ 8 * length bytes
+  pub near : offset + held ≤ 8 * length bytes + 64
   pub holds : HoldsBits bytes offset window held

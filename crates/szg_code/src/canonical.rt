@@ -15,20 +15,22 @@ use std::marker::Model;
 
 /// An accepted code: words of 1 to 32 bits, none of which begins another, for symbols below the number of symbols.
 /// As in de Man's probing code, it stores the base of each length shifted to the top of 64 bits. For each first
-/// byte of a window it also stores the length index from which the search for a word's length starts. If most bytes
-/// contain two whole words, it stores the first two words of each byte.
+/// byte of a window it also stores the length from which the search for a word's length starts, and for each length the
+/// symbol that the number 0 would have, modulo 2^64, to which a word's number is only added. If most bytes contain two
+/// whole words, it stores the first two words of each byte.
 #[derive(Drop)]
 pub struct Code {
     header: CodeHeader,
-    bases: [u64; 32],
+    bases: [u64; 34],
     starts: [u8; 256],
+    zero_symbols: [u64; 33],
     two_words: Option<[TwoWords; 256]>,
 }
 
 impl Model for Code {
     ghost use Rattle.szg_code.specs.Canonical.{CanonicalCode};
     ghost use Rattle.szg_code.specs.Acceptance.{IsCode};
-    ghost use Rattle.szg_code.specs.Least.{HasShiftedBases, HasStarts};
+    ghost use Rattle.szg_code.specs.Least.{HasShiftedBases, HasStarts, HasZeroSymbols};
     ghost use Rattle.szg_code.specs.CodeHeader.{code_of};
     ghost use Rattle.std.specs.Prelude.{◌≤◌, IfSome};
     ghost use Rattle.szg_code.specs.TwoWords.{HasTwoWords};
@@ -37,7 +39,7 @@ impl Model for Code {
 
     ghost view = { λ code. code_of code.header };
 
-    ghost invariant = { λ code. IsCode (code_of code.header) × HasShiftedBases (code_of code.header) code.bases × HasStarts (code_of code.header) code.starts × IfSome code.two_words (λ list. HasTwoWords (code_of code.header) list × (code.header.min ≤ 4)) };
+    ghost invariant = { λ code. IsCode (code_of code.header) × HasShiftedBases (code_of code.header) code.bases × HasStarts (code_of code.header) code.starts × HasZeroSymbols (code_of code.header) code.zero_symbols × IfSome code.two_words (λ list. HasTwoWords (code_of code.header) list × (code.header.min ≤ 4)) };
 }
 
 impl Code {
@@ -69,10 +71,12 @@ impl Code {
         match header.bases() {
             Err(j) => Err(CodeFault::TooFull(j)),
             Ok(bases) => {
+                let zero_symbols = header.zero_symbols(&bases);
                 let bases = header.shifted(&bases);
                 let code = Code {
                     starts: header.starts(&bases),
                     bases,
+                    zero_symbols,
                     two_words: None,
                     header,
                 };
@@ -98,6 +102,7 @@ impl Code {
     /// Returns the greatest length of a word in bits, as `max` does. It is at most 32.
     #[inline(always)]
     pub(crate) fn longest(&self) -> u64
+        ensures accepted { IsCode self.now }
         ensures length { result ≡ self.now.max_length }
         ensures few { result ≤ 32 }
     {
@@ -171,8 +176,8 @@ impl Code {
         ensures base { result ≡ base self.now (self.now.min_length + j) }
         ensures fits { result < 2 ^ 32 }
     {
-        let min = usize::from(self.header.min);
-        self.bases[j] >> (64 - min - j)
+        let length = usize::from(self.header.min) + j;
+        self.bases[length] >> (64 - length)
     }
 
     /// Returns the end of the range of numbers that the words of the length at index `j` have, exclusive.
@@ -209,69 +214,57 @@ impl Code {
         })
     }
 
-    /// Returns the index of the least length whose base, shifted to the top of 64 bits, is at most the window. The
-    /// shifted bases do not increase with the length, and neighbours may be equal; the first one counts.
+    /// Returns the least length whose base, shifted to the top of 64 bits, is at most the window. The shifted bases do not
+    /// increase with the length, and neighbours may be equal; the first one counts.
     ///
     /// If `TABLE`, the search starts where the table of first bytes says. Otherwise it starts at one of the two least
     /// lengths, by a comparison that isn't a branch: what comes next waits for no table and for no prediction.
     #[inline(always)]
-    pub(crate) fn reached_index<const TABLE: bool>(&self, window: u64) -> usize
+    pub(crate) fn reached_length<const TABLE: bool>(&self, window: u64) -> usize
         ensures accepted { IsCode self.now }
-        ensures inside { result < length self.now.lowest }
-        ensures reaches { shifted_base self.now 64 (self.now.min_length + result) ≤ window }
-        ensures before { (k : ℕ) → k < result → window < shifted_base self.now 64 (self.now.min_length + k) }
+        ensures long { self.now.min_length ≤ result }
+        ensures short { result ≤ self.now.max_length }
+        ensures reaches { shifted_base self.now 64 result ≤ window }
+        ensures before { (k : ℕ) → self.now.min_length ≤ k → k < result → window < shifted_base self.now 64 k }
     {
+        let least = usize::from(self.header.min);
         let start = if TABLE {
             usize::from(self.starts[(window >> 56) as usize])
         } else {
-            usize::from(window < self.bases[0])
+            least + usize::from(window < self.bases[least])
         };
-        self.header.reached_index_from(&self.bases, start, window)
+        self.header.reached_length_from(&self.bases, start, window)
     }
 
     /// Returns whether words are decoded one by one, and their lengths found by comparing: at most one of 64 windows begins
     /// with a word that is longer than the two least lengths, and the first two words of each byte are not stored.
     pub fn is_read_word_by_word(&self) -> bool {
-        self.bases[1] <= LEAST_WINDOWS && self.two_words.is_none()
+        let second = usize::from(self.header.min) + 1;
+        self.bases[second] <= LEAST_WINDOWS && self.two_words.is_none()
     }
 
-    /// Returns the number that the window's leading bits, whose number is the length at index `j`, represent as a symbol.
+    /// Returns the number that the window's first `length` bits represent as a symbol.
     #[inline(always)]
-    fn symbol_number(&self, window: u64, j: usize) -> u64
-        requires length { j < length self.now.lowest }
-        requires reaches { shifted_base self.now 64 (self.now.min_length + j) ≤ window }
-        ensures { result ≡ symbol_at self.now (self.now.min_length + j) (window / 2 ^ (64 - (self.now.min_length + j))) }
+    fn symbol_number(&self, window: u64, length: usize) -> u64
+        requires long { self.now.min_length ≤ length }
+        requires short { length ≤ self.now.max_length }
+        requires reaches { shifted_base self.now 64 length ≤ window }
+        ensures { result ≡ symbol_at self.now length (window / 2 ^ (64 - length)) }
     {
-        let min = usize::from(self.header.min);
-        let above = (window - self.bases[j]) >> (64 - min - j);
-        u64::from(self.lowest()[j]) + above
+        let zero_symbols = &self.zero_symbols;
+        zero_symbols[length].wrapping_add(window >> (64 - length))
     }
 
-    /// Returns the symbol of the window's leading bits, whose number is the length at index `j`. It is below the number of
-    /// symbols.
+    /// Returns the symbol of the window's first `length` bits. None if it is not below the number of symbols.
     #[inline(always)]
-    pub(crate) fn symbol_there(&self, window: u64, j: usize) -> u16
-        requires length { j < length self.now.lowest }
-        requires reaches { shifted_base self.now 64 (self.now.min_length + j) ≤ window }
-        requires there { symbol_at self.now (self.now.min_length + j) (window / 2 ^ (64 - (self.now.min_length + j))) < self.now.symbols }
-        ensures { result ≡ symbol_at self.now (self.now.min_length + j) (window / 2 ^ (64 - (self.now.min_length + j))) }
+    pub(crate) fn symbol_in(&self, window: u64, length: usize) -> Option<u16>
+        requires long { self.now.min_length ≤ length }
+        requires short { length ≤ self.now.max_length }
+        requires reaches { shifted_base self.now 64 length ≤ window }
+        ensures found { IfSome result (λ s. (s ≡ symbol_at self.now length (window / 2 ^ (64 - length))) × (s < self.now.symbols)) }
+        ensures none { IfNone result (self.now.symbols ≤ symbol_at self.now length (window / 2 ^ (64 - length))) }
     {
-        let symbol = self.symbol_number(window, j);
-        prove!(symbol < u64::from(self.symbols()));
-        symbol as u16
-    }
-
-    /// Returns the symbol of the window's leading bits, whose number is the length at index `j`. None if it is not
-    /// below the number of symbols.
-    #[inline(always)]
-    pub(crate) fn symbol_in(&self, window: u64, j: usize) -> Option<u16>
-        requires length { j < length self.now.lowest }
-        requires reaches { shifted_base self.now 64 (self.now.min_length + j) ≤ window }
-        ensures accepted { IsCode self.now }
-        ensures found { IfSome result (λ s. (s ≡ symbol_at self.now (self.now.min_length + j) (window / 2 ^ (64 - (self.now.min_length + j)))) × (s < self.now.symbols)) }
-        ensures none { IfNone result (self.now.symbols ≤ symbol_at self.now (self.now.min_length + j) (window / 2 ^ (64 - (self.now.min_length + j)))) }
-    {
-        let symbol = self.symbol_number(window, j);
+        let symbol = self.symbol_number(window, length);
         if symbol < u64::from(self.symbols()) {
             Some(symbol as u16)
         } else {

@@ -2,7 +2,7 @@
 ghost use Rattle.std.specs.Prelude.{ℕ, ◌≡◌, ◌+◌, ◌-◌, ◌*◌, ◌^◌, ◌<◌, ◌≤◌, ◌↔◌, ◌⊎◌, length, IsTrue, IfOk, IfErr, IfSome, IfNone};
 ghost use Rattle.szg_code.specs.Canonical.{base};
 ghost use Rattle.szg_code.specs.Acceptance.{HasLengths, IsOrderedAt, HasRoomAt, IsCode, IsFirstRise, IsLastOverfull, IsOverfullAtLeast};
-ghost use Rattle.szg_code.specs.Least.{HasBases, HasShiftedBases, HasStarts, IsStart, shifted_base};
+ghost use Rattle.szg_code.specs.Least.{HasBases, HasShiftedBases, HasStarts, HasZeroSymbols, IsStart, shifted_base};
 
 /// The number of 64-bit windows that share a first byte.
 const WINDOWS: u64 = 1 << 56;
@@ -77,49 +77,72 @@ impl CodeHeader {
         Ok(bases)
     }
 
-    /// Shifts each base to the top of a 64-bit window.
-    pub fn shifted(&self, bases: &[u32; 32]) -> [u64; 32]
+    /// Shifts each base to the top of a 64-bit window. The result has a length's base at the index of the length.
+    pub fn shifted(&self, bases: &[u32; 32]) -> [u64; 34]
         requires accepted { IsCode (code_of self.now) }
         requires bases { HasBases (code_of self.now) bases.now }
         ensures { HasShiftedBases (code_of self.now) result }
     {
-        let mut shifted = [0u64; 32];
-        for j in 0..self.lowest.len() {
-            shifted[j] = u64::from(bases[j]) << (64 - usize::from(self.min) - j);
+        let min = usize::from(self.min);
+        let mut shifted = [0u64; 34];
+        for length in min..usize::from(self.max) + 1 {
+            shifted[length] = u64::from(bases[length - min]) << (64 - length);
         }
         shifted
     }
 
-    /// Returns the index of the first length, from index `from` on, whose base, shifted to the top of 64 bits, is
-    /// at most the window.
-    pub(crate) fn reached_index_from(&self, bases: &[u64; 32], from: usize, window: u64) -> usize
+    /// Computes, for each length, the symbol that the number 0 would have, modulo 2^64: the lowest symbol without the base.
+    /// The result has it at the index of the length.
+    pub fn zero_symbols(&self, bases: &[u32; 32]) -> [u64; 33]
         requires accepted { IsCode (code_of self.now) }
-        requires bases { HasShiftedBases (code_of self.now) bases.now }
-        requires inside { from < length self.now.lowest.items }
-        requires before { (k : ℕ) → k < from → window < shifted_base (code_of self.now) 64 (self.now.min + k) }
-        ensures inside { result < length self.now.lowest.items }
-        ensures reaches { shifted_base (code_of self.now) 64 (self.now.min + result) ≤ window }
-        ensures before { (k : ℕ) → k < result → window < shifted_base (code_of self.now) 64 (self.now.min + k) }
+        requires bases { HasBases (code_of self.now) bases.now }
+        ensures { HasZeroSymbols (code_of self.now) result }
     {
-        let mut j = from;
-        while window < bases[j] {
-            j += 1;
+        let min = usize::from(self.min);
+        let lowest: &[u16] = &self.lowest;
+        let mut symbols = [0u64; 33];
+        for length in min..usize::from(self.max) + 1 {
+            let first = u64::from(lowest[length - min]);
+            symbols[length] = first.wrapping_sub(u64::from(bases[length - min]));
         }
-        j
+        symbols
     }
 
-    /// Returns the index of the first length whose base is reached by some window with this first byte.
-    fn start_of(&self, bases: &[u64; 32], first: u8) -> u8
+    /// Returns the first length, from length `from` on, whose base, shifted to the top of 64 bits, is at most the window.
+    #[inline(always)]
+    pub(crate) fn reached_length_from(&self, bases: &[u64; 34], from: usize, window: u64) -> usize
+        requires accepted { IsCode (code_of self.now) }
+        requires bases { HasShiftedBases (code_of self.now) bases.now }
+        requires long { self.now.min ≤ from }
+        requires short { from ≤ self.now.max }
+        requires before { (k : ℕ) → self.now.min ≤ k → k < from → window < shifted_base (code_of self.now) 64 k }
+        ensures long { self.now.min ≤ result }
+        ensures short { result ≤ self.now.max }
+        ensures reaches { shifted_base (code_of self.now) 64 result ≤ window }
+        ensures before { (k : ℕ) → self.now.min ≤ k → k < result → window < shifted_base (code_of self.now) 64 k }
+    {
+        if window >= bases[from] {
+            return from;
+        }
+        let mut length = from + 1;
+        while window < bases[length] {
+            length += 1;
+        }
+        length
+    }
+
+    /// Returns the first length whose base is reached by some window with this first byte.
+    fn start_of(&self, bases: &[u64; 34], first: u8) -> u8
         requires accepted { IsCode (code_of self.now) }
         requires bases { HasShiftedBases (code_of self.now) bases.now }
         ensures { IsStart (code_of self.now) first result }
     {
         let last = u64::from(first) * WINDOWS + (WINDOWS - 1);
-        self.reached_index_from(bases, 0, last) as u8
+        self.reached_length_from(bases, usize::from(self.min), last) as u8
     }
 
-    /// Computes, for each first byte of a window, the length index from which the search starts.
-    pub fn starts(&self, bases: &[u64; 32]) -> [u8; 256]
+    /// Computes, for each first byte of a window, the length from which the search starts.
+    pub fn starts(&self, bases: &[u64; 34]) -> [u8; 256]
         requires accepted { IsCode (code_of self.now) }
         requires bases { HasShiftedBases (code_of self.now) bases.now }
         ensures { HasStarts (code_of self.now) result }

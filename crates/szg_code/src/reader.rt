@@ -4,7 +4,7 @@ ghost use Rattle.szg_code.specs.Bits.{bits, number};
 ghost use Rattle.szg_code.specs.Spelling.{BeginsWithNoWord};
 ghost use Rattle.szg_code.specs.Cursor.{Cursor, TakesWord, TakesWords};
 ghost use Rattle.szg_code.specs.NextWords.{symbols_of};
-ghost use Rattle.szg_code.specs.Window.{HoldsBits, padded};
+ghost use Rattle.szg_code.specs.Window.{IsWordReader, padded};
 
 use crate::bytes::byte_or_zero;
 use crate::canonical::Code;
@@ -28,28 +28,75 @@ struct Window {
     held: u64,
 }
 
-/// A bit reader over borrowed bytes, each byte's high bit first.
+/// A bit reader over borrowed bytes that may move past their end, where it reads zeros. So a loop that decodes words
+/// compares with the end once, after the last word, and not at each word.
 ///
 /// The window is read anew when it may be too short for the longest word. A word counts as a longest one there, so the
 /// number of words between two such reads is always the same, and a processor can predict it.
 #[derive(Drop)]
-pub struct Bits<'a> {
+pub struct EndlessBits<'a> {
     bytes: &'a [u8],
     offset: u64,
     window: Window,
 }
 
-impl<'a> Model for Bits<'a> {
-    ghost use Rattle.std.specs.Prelude.{take, drop};
+impl<'a> Model for EndlessBits<'a> {
+    ghost use Rattle.std.specs.Prelude.{◌-◌, ◌*◌, length, take, drop};
     ghost use Rattle.szg_code.specs.Bits.{bits};
-    ghost use Rattle.szg_code.specs.Cursor.{Cursor};
+    ghost use Rattle.szg_code.specs.Cursor.{EndlessCursor};
     ghost use Rattle.szg_code.specs.Window.{IsWordReader};
+
+    ghost Value = { EndlessCursor };
+
+    ghost view = { λ reader. record {
+      cursor = record { taken = take reader.offset (bits reader.bytes.now); left = drop reader.offset (bits reader.bytes.now) };
+      past = reader.offset - 8 * length reader.bytes.now;
+    } };
+
+    ghost invariant = { λ reader. IsWordReader reader.bytes.now reader.offset reader.window.bits reader.window.held };
+}
+
+impl<'a> EndlessBits<'a> {
+    /// Returns a reader at the same offset.
+    #[inline(always)]
+    pub fn copied(&self) -> EndlessBits<'a>
+        ensures { result ≡ self.now }
+    {
+        EndlessBits {
+            bytes: self.bytes,
+            offset: self.offset,
+            window: self.window,
+        }
+    }
+
+    /// Returns the reader, which from now on stays within its bytes. None if it has moved past their end.
+    #[inline(always)]
+    pub fn within(self) -> Option<Bits<'a>>
+        ensures within { IfSome result (λ bits. (self.entry.past ≡ 0) × (bits ≡ self.entry.cursor)) }
+        ensures past { IfNone result ((0 < self.entry.past) × (self.entry.cursor.left ≡ [])) }
+    {
+        if self.offset > 8 * self.bytes.len() as u64 {
+            return None;
+        }
+        Some(Bits { reader: self })
+    }
+}
+
+/// A bit reader over borrowed bytes, each byte's high bit first.
+#[derive(Drop)]
+pub struct Bits<'a> {
+    reader: EndlessBits<'a>,
+}
+
+impl<'a> Model for Bits<'a> {
+    ghost use Rattle.std.specs.Prelude.{◌≡◌};
+    ghost use Rattle.szg_code.specs.Cursor.{Cursor};
 
     ghost Value = { Cursor };
 
-    ghost view = { λ reader. record { taken = take reader.offset (bits reader.bytes.now); left = drop reader.offset (bits reader.bytes.now) } };
+    ghost view = { λ bits. bits.reader.cursor };
 
-    ghost invariant = { λ reader. IsWordReader reader.bytes.now reader.offset reader.window.bits reader.window.held };
+    ghost invariant = { λ bits. bits.reader.past ≡ 0 };
 }
 
 impl<'a> Bits<'a> {
@@ -60,9 +107,11 @@ impl<'a> Bits<'a> {
         ensures left { result.left ≡ bits bytes.now }
     {
         Bits {
-            bytes,
-            offset: 0,
-            window: Window { bits: 0, held: 0 },
+            reader: EndlessBits {
+                bytes,
+                offset: 0,
+                window: Window { bits: 0, held: 0 },
+            },
         }
     }
 
@@ -70,57 +119,98 @@ impl<'a> Bits<'a> {
     pub fn place(&self) -> u64
         ensures { result ≡ length self.now.taken }
     {
-        self.offset
+        self.reader.offset
+    }
+
+    /// Returns the reader, which from now on may move past the end of its bytes.
+    #[inline(always)]
+    pub fn endless(self) -> EndlessBits<'a>
+        ensures { result ≡ record { cursor = self.entry; past = 0 } }
+    {
+        self.reader
     }
 }
 
-/// Reads four bytes at offset `at` as a big-endian number, with zeros past the end.
-#[inline(always)]
-fn read_u32_at(bytes: &[u8], at: usize) -> u32
-    requires { at < 2 ^ 62 }
-    ensures { result ≡ number (padded 32 (drop (8 * at) (bits bytes.now))) }
-{
-    if at + 4 <= bytes.len() {
-        BigEndian::read_u32(&bytes[at..])
-    } else {
-        BigEndian::read_u32(&[
-            byte_or_zero(bytes, at),
-            byte_or_zero(bytes, at + 1),
-            byte_or_zero(bytes, at + 2),
-            byte_or_zero(bytes, at + 3),
-        ])
-    }
-}
-
-/// Reads eight bytes at offset `at` as a big-endian number, with zeros past the end.
-#[inline(always)]
-fn read_u64_at(bytes: &[u8], at: usize) -> u64
+/// Reads eight bytes at offset `at` as a big-endian number, with zeros past the end, byte by byte. For a few bytes.
+#[cold]
+#[inline(never)]
+fn read_short(bytes: &[u8], at: usize) -> u64
     requires { at < 2 ^ 61 }
     ensures { result ≡ number (padded 64 (drop (8 * at) (bits bytes.now))) }
 {
-    if at + 8 <= bytes.len() {
-        BigEndian::read_u64(&bytes[at..])
-    } else {
-        u64::from(read_u32_at(bytes, at)) << 32 | u64::from(read_u32_at(bytes, at + 4))
-    }
+    BigEndian::read_u64(&[
+        byte_or_zero(bytes, at),
+        byte_or_zero(bytes, at + 1),
+        byte_or_zero(bytes, at + 2),
+        byte_or_zero(bytes, at + 3),
+        byte_or_zero(bytes, at + 4),
+        byte_or_zero(bytes, at + 5),
+        byte_or_zero(bytes, at + 6),
+        byte_or_zero(bytes, at + 7),
+    ])
 }
 
-/// Returns a window from bit `offset` on that holds at least `count` bits: the given one, or one that is read anew.
+/// Reads eight bytes at offset `at` as a big-endian number, with zeros past the end. None if there is no byte.
 #[inline(always)]
-fn window_of(bytes: &[u8], offset: u64, window: Window, count: u64) -> Window
-    requires offset { offset ≤ 2 ^ 63 }
+fn read_u64_at(bytes: &[u8], at: usize) -> Option<u64>
+    requires { at < 2 ^ 61 }
+    ensures number { IfSome result (λ n. n ≡ number (padded 64 (drop (8 * at) (bits bytes.now)))) }
+    ensures some { IfSome result (λ _. at < length bytes.now) }
+    ensures none { IfNone result (length bytes.now ≤ at) }
+{
+    if at + 8 <= bytes.len() {
+        return Some(BigEndian::read_u64(&bytes[at..]));
+    }
+    if at >= bytes.len() {
+        return None;
+    }
+    if bytes.len() < 8 {
+        return Some(read_short(bytes, at));
+    }
+    let last = bytes.len() - 8;
+    Some(BigEndian::read_u64(&bytes[last..]) << (8 * (at - last)))
+}
+
+/// Returns a window from bit `offset` on that holds `count` bits more than its `held` says: the given one, or one that is read
+/// anew. None if no bits are left to be read.
+#[inline(always)]
+fn window_of(bytes: &[u8], offset: u64, window: Window, count: u64) -> Option<Window>
     requires few { count ≤ 57 }
-    requires held { HoldsBits bytes.now offset window.bits window.held }
-    ensures held { HoldsBits bytes.now offset result.bits result.held }
-    ensures enough { count ≤ result.held }
+    requires valid { IsWordReader bytes.now offset window.bits window.held }
+    ensures valid { IfSome result (λ window. IsWordReader bytes.now offset window.bits (count + window.held)) }
+    ensures none { IfNone result (8 * length bytes.now ≤ offset) }
 {
     if window.held >= count {
-        return window;
+        return Some(Window {
+            bits: window.bits,
+            held: window.held - count,
+        });
     }
-    Window {
-        bits: read_u64_at(bytes, (offset / 8) as usize) << (offset % 8),
-        held: FRESH,
-    }
+    Some(Window {
+        bits: read_u64_at(bytes, (offset / 8) as usize)? << (offset % 8),
+        held: FRESH - count,
+    })
+}
+
+/// Decodes the word at the reader's offset, moves the reader past it, and returns its symbol. None if the remaining bits do not
+/// begin with a word. If the bytes end within the word, zeros complete it, and the reader has moved past the end. If `TABLE`, a
+/// word's length is found by the code's table of first bytes, else by comparing.
+#[inline(always)]
+pub fn next_endless<const TABLE: bool>(code: &Code, words: &mut EndlessBits) -> Option<u16>
+    ensures there { IfSome result (λ s. s < code.now.symbols) }
+    ensures found { IfSome result (λ s. words.new.past ≡ 0 → (words.old.past ≡ 0) × TakesWord code.now words.old.cursor words.new.cursor s) }
+    ensures past { IfSome result (λ _. 0 < words.new.past → BeginsWithNoWord code.now words.old.cursor.left) }
+    ensures none { IfNone result (BeginsWithNoWord code.now words.old.cursor.left) }
+{
+    let window = window_of(words.bytes, words.offset, words.window, code.longest())?;
+    let length = code.reached_length::<TABLE>(window.bits);
+    let symbol = code.symbol_in(window.bits, length)?;
+    words.offset += length as u64;
+    words.window = Window {
+        bits: window.bits << length,
+        held: window.held,
+    };
+    Some(symbol)
 }
 
 /// Decodes the word at the reader's offset, moves the reader past it, and returns its symbol. The remaining bits must begin
@@ -130,15 +220,8 @@ pub fn next_word(code: &Code, words: &mut Bits) -> u16
     requires { BeginsWithNoWord code.now words.old.left → ⊥ }
     ensures { TakesWord code.now words.old words.new result }
 {
-    let longest = code.longest();
-    let window = window_of(words.bytes, words.offset, words.window, longest);
-    let j = code.reached_index::<false>(window.bits);
-    let count = u64::from(code.min()) + j as u64;
-    let symbol = code.symbol_there(window.bits, j);
-    words.offset += count;
-    words.window = Window {
-        bits: window.bits << count,
-        held: window.held - longest,
+    let Some(symbol) = next_endless::<false>(code, &mut words.reader) else {
+        unreachable!()
     };
     symbol
 }
@@ -151,20 +234,9 @@ pub fn next_word_if<const TABLE: bool>(code: &Code, words: &mut Bits) -> Option<
     ensures found { IfSome result (λ s. TakesWord code.now words.old words.new s) }
     ensures none { IfNone result (BeginsWithNoWord code.now words.old.left × (words.new ≡ words.old)) }
 {
-    let longest = code.longest();
-    let window = window_of(words.bytes, words.offset, words.window, longest);
-    let j = code.reached_index::<TABLE>(window.bits);
-    let count = u64::from(code.min()) + j as u64;
-    let end = words.offset + count;
-    if end > 8 * words.bytes.len() as u64 {
-        return None;
-    }
-    let symbol = code.symbol_in(window.bits, j)?;
-    words.offset = end;
-    words.window = Window {
-        bits: window.bits << count,
-        held: window.held - longest,
-    };
+    let mut moved = words.reader.copied();
+    let symbol = next_endless::<TABLE>(code, &mut moved)?;
+    *words = moved.within()?;
     Some(symbol)
 }
 
@@ -190,11 +262,12 @@ pub enum NextWords {
 /// Decodes the next two words if the next byte contains both, and moves the reader past them. Otherwise returns None,
 /// and the reader does not move.
 #[inline(always)]
-fn next_two(code: &Code, words: &mut Bits) -> Option<TwoWords>
-    ensures found { IfSome result (λ two. (middle : Cursor) × TakesWord code.now words.old middle two.first × TakesWord code.now middle words.new two.second) }
+fn next_two(code: &Code, words: &mut EndlessBits) -> Option<TwoWords>
+    ensures found { IfSome result (λ two. (middle : Cursor) × TakesWord code.now words.old.cursor middle two.first × TakesWord code.now middle words.new.cursor two.second) }
+    ensures within { IfSome result (λ _. words.new.past ≡ 0) }
     ensures none { IfNone result (words.new ≡ words.old) }
 {
-    let window = window_of(words.bytes, words.offset, words.window, BYTE);
+    let window = window_of(words.bytes, words.offset, words.window, BYTE)?;
     let two = code.two_words_in(window.bits);
     let both = u64::from(two.bits);
     let end = words.offset + both;
@@ -204,7 +277,7 @@ fn next_two(code: &Code, words: &mut Bits) -> Option<TwoWords>
     words.offset = end;
     words.window = Window {
         bits: window.bits << both,
-        held: window.held - BYTE,
+        held: window.held,
     };
     Some(two)
 }
@@ -217,7 +290,7 @@ pub fn next_words(code: &Code, words: &mut Bits) -> Option<NextWords>
     ensures found { IfSome result (λ taken. TakesWords code.now words.old words.new (symbols_of taken)) }
     ensures none { IfNone result (BeginsWithNoWord code.now words.old.left × (words.new ≡ words.old)) }
 {
-    if let Some(two) = next_two(code, words) {
+    if let Some(two) = next_two(code, &mut words.reader) {
         return Some(NextWords::Two(two.first, two.second));
     }
     let symbol = next(code, words)?;

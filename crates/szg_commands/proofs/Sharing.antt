@@ -8,7 +8,7 @@ use Rattle.std.proofs.lemmas.List.Sorted.{IsPermutation-append_left, IsPermutati
 use Rattle.szg_commands.specs.Laws.{ShardsShareFiles, shards_from}
 use Rattle.szg_archive.specs.Shards.{has, shard_after, shard_of, taken_of}
 use Rattle.szg_archive.specs.Verdicts.{Listed}
-use Rattle.szg_archive.specs.declared.shard.FileShard.{FileShard}
+use Rattle.szg_named.specs.declared.checks.FileShard.{FileShard}
 
 abbrev shard : ℕ → ℕ → FileShard
 shard count number = record { number = number; count = count }

@@ -2,7 +2,7 @@
 use Rattle.std.specs.Prelude.{ℕ, zero, suc, ◌+◌, ◌<◌, List, [], ◌∷◌, flat_map, IsPermutation, Some}
 use Rattle.szg_archive.specs.Shards.{shard_of}
 use Rattle.szg_archive.specs.Verdicts.{Listed}
-use Rattle.szg_archive.specs.declared.shard.FileShard.{FileShard}
+use Rattle.szg_named.specs.declared.checks.FileShard.{FileShard}
 
 -- the shards of `count` from number `first` on, so many
 abbrev pub shards_from : ℕ → ℕ → ℕ → List FileShard

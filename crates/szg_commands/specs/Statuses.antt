@@ -1,8 +1,6 @@
 -- The program's status, by the ending of a run.
-use Rattle.std.specs.Prelude.{◌≡◌, ◌⊎◌, ℕ, nat_lt, Ok, Err, if◌then◌else◌}
-use Rattle.szg_archive.specs.declared.stop.CheckStop.{CheckStop}
-use Rattle.szg_archive.specs.declared.stop.CheckStop.TheVariants as check_stops
-use Rattle.szg_archive.specs.declared.stop.CheckCounts.{CheckCounts}
+use Rattle.std.specs.Prelude.{◌≡◌, ◌⊎◌, ℕ, nat_lt, Some, None, Ok, Err, if◌then◌else◌}
+use Rattle.szg_archive.specs.declared.counts.CheckCounts.{CheckCounts}
 use Rattle.szg_answers.specs.Outcome.{OnDone, OnRefused, status_of}
 use Rattle.szg_answers.specs.declared.on_files.Ending.{Ending}
 use Rattle.szg_answers.specs.declared.on_files.Ending.TheVariants.{Checked, Listed, Done, Refused, Failed, BadLine, Device, Memory, Words}
@@ -11,14 +9,11 @@ use Rattle.szg_answers.specs.declared.on_files.Ending.TheVariants.{Checked, List
 abbrev pub tally_status : CheckCounts → ℕ
 tally_status tally = if nat_lt 0 tally.refused then 1 else if nat_lt 0 tally.unread then 3 else 0
 
-abbrev pub stop_status : CheckStop → ℕ
-stop_status check_stops.Device = 3
-stop_status check_stops.Memory = 4
-
 -- An ending has a status: where a text is printed on standard error that fails, 3.
 abbrev pub HasStatus : Ending → ℕ → Type 0
-HasStatus (Checked (Ok report)) status = status ≡ tally_status report.counts
-HasStatus (Checked (Err stop)) status = (status ≡ stop_status stop) ⊎ (status ≡ 3)
+HasStatus (Checked (Ok (Some report))) status = status ≡ tally_status report.counts
+HasStatus (Checked (Ok None)) status = status ≡ 3
+HasStatus (Checked (Err error)) status = (status ≡ 4) ⊎ (status ≡ 3)
 HasStatus (Done published) status = status ≡ 0
 HasStatus Refused status = status ≡ 1
 HasStatus (Failed failure) status = (status ≡ 3) ⊎ (status ≡ 4)

@@ -9,5 +9,5 @@ mod statuses;
 mod verification;
 
 pub use progress::{ProgressLine, ReadLine};
-pub use running::{print_assumed_class, run_given, words_given};
+pub use running::{run_given, words_given};
 pub use statuses::no_words_status;

@@ -41,48 +41,6 @@ struct WalkSeen {
     positions: u64,
 }
 
-/// How fast a walk goes.
-#[derive(Clone, Copy)]
-struct Pace {
-    /// Positions in a second.
-    rate: u64,
-    /// The seconds until the walk ends, if it goes on so.
-    left: u64,
-}
-
-impl WalkSeen {
-    /// Returns the pace of a walk up to now: `rest` of the numbers that place positions are left.
-    fn pace(&self, now: Instant, done: u64, positions: u64, rest: u64) -> Pace {
-        let elapsed = now.duration_since(self.began);
-        let millis = elapsed
-            .as_secs()
-            .saturating_mul(1000)
-            .saturating_add(u64::from(elapsed.subsec_millis()))
-            .max(1);
-        let numbers = done.saturating_sub(self.done).saturating_mul(1000) / millis;
-        let positions = positions.saturating_sub(self.positions);
-        Pace {
-            rate: positions.saturating_mul(1000) / millis,
-            left: rest / numbers.max(1),
-        }
-    }
-}
-
-impl Display for Pace {
-    fn fmt<W: fmt::Write>(&self, f: &mut Formatter<W>) -> fmt::Result {
-        let Pace { rate, left } = *self;
-        if left < 120 {
-            write!(f, "{rate} a second, {left} s left")
-        } else if left < 7200 {
-            let minutes = left / 60;
-            write!(f, "{rate} a second, {minutes} min left")
-        } else {
-            let hours = left / 3600;
-            write!(f, "{rate} a second, {hours} h left")
-        }
-    }
-}
-
 /// Shows on standard error how far a build or a verification has come: one line, which is rewritten, and erased at the end. Nothing is
 /// written if standard error is no terminal. It is ignored if a text can't be written.
 #[derive(Drop)]
@@ -130,6 +88,36 @@ impl<'a, E: Eprint, C: Clock> ProgressLine<'a, E, C> {
             }
             _ => false,
         }
+    }
+
+    /// Writes how far a walk has come, the positions in a second, and the time that is left if it goes on so.
+    fn show_walk(
+        &self,
+        walk: WalkSeen,
+        now: Instant,
+        material: &Material,
+        done: u64,
+        to: u64,
+        positions: u64,
+    ) {
+        let millis = now.duration_since(walk.began).as_millis();
+        let millis = u64::try_from(millis).unwrap_or(u64::MAX).max(1);
+        let numbers = done.saturating_sub(walk.done).saturating_mul(1000) / millis;
+        let rate = positions
+            .saturating_sub(walk.positions)
+            .saturating_mul(1000)
+            / millis;
+        let left = to.saturating_sub(done) / numbers.max(1);
+        let (left, unit) = match left {
+            0..=119 => (left, "s"),
+            120..=7199 => (left / 60, "min"),
+            _ => (left / 3600, "h"),
+        };
+        let name = material.name();
+        let name = name.as_str();
+        let _ = eprint!(self.errors;
+            "{ERASE}{name}: {positions} positions, {rate} a second, {left} {unit} left"
+        );
     }
 }
 
@@ -191,10 +179,7 @@ impl<'a, E: Eprint, C: Clock> WalkWatcher for ProgressLine<'a, E, C> {
         };
         if self.is_late(Some(now)) {
             self.written = Some(now);
-            let pace = walk.pace(now, done, positions, to.saturating_sub(done));
-            let name = material.name();
-            let name = name.as_str();
-            let _ = eprint!(self.errors; "{ERASE}{name}: {positions} positions, {pace}");
+            self.show_walk(walk, now, material, done, to, positions);
         }
     }
 }
@@ -218,17 +203,6 @@ struct ReadSoFar {
     /// When the line was written last, or else the first file was opened.
     written: Option<Instant>,
     is_shown: bool,
-}
-
-impl ReadSoFar {
-    /// Returns the megabytes that were read in a second up to now.
-    fn rate(&self, now: Instant) -> u64 {
-        let millis = match self.began {
-            Some(began) => now.duration_since(began).as_millis().max(1),
-            None => 1,
-        };
-        self.bytes / 1000 / u64::try_from(millis).unwrap_or(u64::MAX).max(1)
-    }
 }
 
 /// Shows on standard error how many files and bytes were read, and how fast: one line, as `ProgressLine` does.
@@ -275,12 +249,15 @@ impl<'a, E: Eprint, C: Clock> ReadLine<'a, E, C> {
         let mut so_far = self.so_far.get();
         so_far.files = so_far.files.saturating_add(files);
         so_far.bytes = so_far.bytes.saturating_add(bytes);
-        so_far.began = so_far.began.or(Some(now));
+        let began = so_far.began.unwrap_or(now);
+        so_far.began = Some(began);
         let written = so_far.written.unwrap_or(now);
         so_far.written = Some(written);
         if now.duration_since(written) >= Duration::from_millis(PAUSE_MILLIS) {
             let ReadSoFar { files, bytes, .. } = so_far;
-            let (megabytes, rate) = (bytes / 1_000_000, so_far.rate(now));
+            let megabytes = bytes / 1_000_000;
+            let millis = now.duration_since(began).as_millis();
+            let rate = bytes / 1000 / u64::try_from(millis).unwrap_or(u64::MAX).max(1);
             let _ = eprint!(self.errors;
                 "{ERASE}files {files}, {megabytes} MB, {rate} MB a second"
             );

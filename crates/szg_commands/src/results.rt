@@ -1,28 +1,12 @@
 //! Results of positions over folders of tables: `szg probe [--format json] FOLDER.. FEN`.
 
-use crate::statuses::status_of;
 use std::alloc::Global;
 use std::io::{self, BufRead, BufReader, BufWriter, Read, Write};
-use std::process::ExitCode;
 use std::rt::Files;
 use szg_answers::Outcome;
 use szg_files::{Disk, FileSystem};
 use szg_results::{Folders, ResultStop, board_of, stop_text};
 use szg_words::{AnswerForm, ProbeWords};
-
-/// Writes the results that a command line asks for, one position's on a terminal below its board. The status is 1 if a
-/// position is refused, 3 if a stream failed.
-pub(crate) fn run_results(
-    rt: &(impl Eprint + AllocGlobal),
-    machine: &impl Files,
-    asked: ProbeWords<'_>,
-    is_terminal: bool,
-    input: impl Read + Drop,
-    output: impl Write + Drop,
-) -> ExitCode {
-    let written = write_results(rt.alloc(), machine, asked, is_terminal, input, output);
-    status_of(rt, &outcome_of(written))
-}
 
 /// Returns the outcome of a command that wrote its lines and says whether nothing was refused, or that failed.
 pub(crate) fn outcome_of(written: io::Result<bool>) -> Outcome {
@@ -34,8 +18,9 @@ pub(crate) fn outcome_of(written: io::Result<bool>) -> Outcome {
     }
 }
 
-/// Writes the results; returns whether no position was refused.
-fn write_results(
+/// Writes the results that a command line asks for, one position's on a terminal below its board; returns whether no position
+/// was refused.
+pub(crate) fn write_results(
     alloc: Global,
     machine: &impl Files,
     asked: ProbeWords<'_>,

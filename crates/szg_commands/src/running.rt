@@ -2,7 +2,7 @@
 ghost use Rattle.std.specs.Prelude.{◌≡◌, IfOk, OnErr, OnOk, map, string_bytes};
 
 use crate::progress::ReadLine;
-use crate::results::run_results;
+use crate::results::{outcome_of, write_results};
 use crate::statuses::{ending_status, status_of};
 use crate::verification::run_verify;
 use std::alloc::{AllocError, Global};
@@ -50,7 +50,8 @@ fn finish<'a>(ending: Ending<'a>, flushed: io::Result<()>) -> Ending<'a>
 fn is_refused(ending: &Ending<'_>) -> bool {
     match ending {
         Ending::Words(Outcome::Refused) | Ending::Refused => true,
-        Ending::Checked(Ok(report)) | Ending::Listed { report, .. } => report.counts.refused > 0,
+        Ending::Checked(Ok(Some(report))) | Ending::Listed { report, .. } => report.counts.refused
+            > 0,
         _ => false,
     }
 }
@@ -67,14 +68,8 @@ fn print_meant(rt: &(impl Eprint + AllocGlobal), texts: &[&str]) {
     }
 }
 
-/// Prints on standard error the class for which a DTZ table is probed if the words give none.
-pub fn print_assumed_class(rt: &(impl Eprint + AllocGlobal), words: &[String]) {
-    if assumes_win(words) {
-        let _ = eprintln!(rt; "this is the number of a win: for another class give --class");
-    }
-}
-
-/// Runs the words of a command line on a machine's files, on an input and an output; faults are printed on standard error.
+/// Runs the words of a command line on a machine's files, on an input and an output; faults, and the class for which a DTZ table
+/// is probed if the words give none, are printed on standard error.
 /// `watcher` sees a build or a verification, and `reads` shows what is read of files. `is_terminal` says whether the output is a
 /// terminal.
 pub fn run_given<D: Files + Clock>(
@@ -94,7 +89,8 @@ where
         return status_of(rt, &Outcome::Memory);
     };
     if let Some(asked) = probe_of(texts.as_slice()) {
-        return run_results(rt, machine, asked, is_terminal, input, output);
+        let written = write_results(rt.alloc(), machine, asked, is_terminal, input, output);
+        return status_of(rt, &outcome_of(written));
     }
     match verification_of(rt.alloc(), texts.as_slice()) {
         Ok(Some(asked)) => return run_verify(rt, machine, &asked, output, watcher),
@@ -114,7 +110,11 @@ where
     if is_refused(&ending) && !is_closed {
         print_meant(rt, texts.as_slice());
     }
-    ending_status(rt, ending, is_closed)
+    let status = ending_status(rt, ending, is_closed);
+    if status == ExitCode::SUCCESS && assumes_win(words) {
+        let _ = eprintln!(rt; "this is the number of a win: for another class give --class");
+    }
+    status
 }
 
 /// An output whose lines come above what a terminal shows of reads.

@@ -8,7 +8,7 @@ use std::alloc::AllocError;
 use std::io;
 use std::process::ExitCode;
 use szg_answers::{Ending, FileFailure, LineKind, Outcome};
-use szg_archive::{CheckCounts, CheckStop, escaped_path};
+use szg_archive::{CheckCounts, escaped_path};
 use szg_named::fault_text;
 
 /// The status where the words of the command line can't be had: one is no text, or memory is short.
@@ -68,18 +68,6 @@ fn failure_status(rt: &(impl Eprint + AllocGlobal), failure: FileFailure<'_>) ->
     ExitCode::from(Outcome::Device.status())
 }
 
-/// The status where a line of a list of sums, or of a log, isn't one: it is printed on standard error.
-fn line_status(rt: &(impl Eprint + AllocGlobal), path: &str, line: u64, due: LineKind) -> ExitCode
-    ensures { exit_status result ≡ 3 }
-{
-    let due = match due {
-        LineKind::Sum => "a digest and a name",
-        LineKind::Record => "a record of szg check --format tsv or json",
-    };
-    print_fault(rt, path, format!(in rt.alloc(); "line {line} isn't {due}"));
-    ExitCode::from(Outcome::Device.status())
-}
-
 /// Prints a path and what is wrong with its file on standard error. In the path control characters and backslashes are `\xNN`,
 /// as in records.
 fn print_fault(rt: &(impl Eprint + AllocGlobal), path: &str, reason: Result<String, AllocError>) {
@@ -102,9 +90,9 @@ pub(crate) fn ending_status(
     }
     match ending {
         Ending::Words(outcome) => status_of(rt, &outcome),
-        Ending::Checked(Ok(report)) => tally_status(&report.counts),
-        Ending::Checked(Err(CheckStop::Device)) => status_of(rt, &Outcome::Device),
-        Ending::Checked(Err(CheckStop::Memory)) => status_of(rt, &Outcome::Memory),
+        Ending::Checked(Ok(Some(report))) => tally_status(&report.counts),
+        Ending::Checked(Ok(None)) => status_of(rt, &Outcome::Device),
+        Ending::Checked(Err(_)) => status_of(rt, &Outcome::Memory),
         Ending::Done(_) => status_of(rt, &Outcome::Done),
         Ending::Refused => status_of(rt, &Outcome::Refused),
         Ending::Failed(failure) => failure_status(rt, failure),
@@ -118,7 +106,14 @@ pub(crate) fn ending_status(
             written: Err(fault),
             ..
         } => failure_status(rt, FileFailure { path, fault }),
-        Ending::BadLine { path, line, due } => line_status(rt, path, line, due),
+        Ending::BadLine { path, line, due } => {
+            let due = match due {
+                LineKind::Sum => "a digest and a name",
+                LineKind::Record => "a record of szg check --format tsv or json",
+            };
+            print_fault(rt, path, format!(in rt.alloc(); "line {line} isn't {due}"));
+            ExitCode::from(Outcome::Device.status())
+        }
         Ending::Device => status_of(rt, &Outcome::Device),
         Ending::Memory => status_of(rt, &Outcome::Memory),
     }

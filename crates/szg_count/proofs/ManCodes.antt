@@ -1,11 +1,10 @@
 -- Man codes, their keys, and the lead pawns' code.
-use Rattle.std.proofs.Common.{◌≡◌, ℕ, zero, suc, ◌+◌, ◌*◌, ◌%◌, ◌^◌, ◌<◌, inl, inr, List, map, refl, sym, ap, ◌∙◌, Bool, true, false, cond, arith}
-use Rattle.std.specs.Prelude.{◌==◌, nat_lt, nat_le}
+use Rattle.std.proofs.Common.{◌≡◌, ℕ, ◌+◌, ◌*◌, ◌%◌, ◌^◌, ◌<◌, inl, inr, List, map, refl, true, arith}
+use Rattle.std.specs.Prelude.{◌==◌}
 use Rattle.std.specs.List.{list_all, range_with_len}
-use Rattle.std.proofs.Math.Bool.{◌&&◌, ◌||◌}
-use Rattle.std.proofs.lemmas.Bool.{eqb-true, lt-ltb}
+use Rattle.std.proofs.lemmas.Bool.{eqb-true}
 use Rattle.szg_values.specs.Men.{code_of}
-use Rattle.szg_values.specs.Material.{Sides, has_pawns, pawn_count, lead_pawn_code, man_codes}
+use Rattle.szg_values.specs.Material.{Sides, man_codes}
 use Rattle.szg_values.specs.declared.Man.{Man}
 use Rattle.szg_values.specs.declared.Man.TheVariants.{Pawn, Knight, Bishop, Rook, Queen, King}
 use Rattle.szg_count.specs.Laws.{IsIn}
@@ -43,13 +42,3 @@ keys_test = refl
 
 pub key_stated : (c : ℕ) → c < 16 → (1 * 2 ^ (3 * c)) % 2 ^ 64 ≡ 8 ^ c
 key_stated c h = eqb-true ((1 * 2 ^ (3 * c)) % 2 ^ 64) (8 ^ c) (tested (λ c. (1 * 2 ^ (3 * c)) % 2 ^ 64 == 8 ^ c) 0 16 c keys_test (omega arith) (omega (arith, h)))
-
--- ---- the lead pawns
-
-no_first : (p q : ℕ) (b : Bool) → nat_lt 0 (p + q) ≡ false → (nat_lt 0 p && b) ≡ false
-no_first zero q b e = refl
-no_first (suc p) q b e = let t = lt-ltb 0 (suc p + q) (omega arith) in let f : true ≡ false = sym t ∙ e in cc
-
--- without pawns no first pawns lead
-pub no_lead_code : (sides : Sides) → has_pawns sides ≡ false → 9 ≡ lead_pawn_code sides
-no_lead_code sides e = ap (λ b. cond b 1 9) (sym (no_first (pawn_count sides.first) (pawn_count sides.second) (pawn_count sides.second == 0 || nat_le (pawn_count sides.first) (pawn_count sides.second)) e))

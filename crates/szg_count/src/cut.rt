@@ -20,16 +20,10 @@ pub const SECOND_PAWN: u8 = 9;
 pub fn is_rearrangement(used: &[u8], codes: &[u8]) -> bool
     ensures { result ≡ is_rearrangement used.now codes.now }
 {
-    used.len() == codes.len() && are_as_many(used, codes)
-}
-
-// Returns whether each code occurs in `used` as often as in `codes`.
-fn are_as_many(used: &[u8], codes: &[u8]) -> bool
-    ensures { result ≡ list_all (λ code. count_of code used.now == count_of code codes.now) codes.now }
-{
-    codes
-        .iter()
-        .all(|code| count_of(*code, used) == count_of(*code, codes))
+    used.len() == codes.len()
+        && codes
+            .iter()
+            .all(|code| count_of(*code, used) == count_of(*code, codes))
 }
 
 /// Counts the men with this code.

@@ -26,7 +26,7 @@ mod ways;
 
 pub use material_info::MaterialInfo;
 pub use side_groups::SideGroups;
-pub use subsets::{rank_subset, unrank_subset};
+pub use subsets::unrank_subset;
 pub use ways::{choose, lead_ways};
 
 /// Why nibbles do not order the groups of a material: the first check that fails, in this order.
@@ -171,6 +171,7 @@ impl Groups {
     {
         let mut groups = ArrayVec::new();
         let mut first = 0;
+        let mut size = 1;
         for (i, length) in lengths.iter().enumerate() {
             groups.push(Group {
                 first,
@@ -179,11 +180,9 @@ impl Groups {
                 factor: factor_at(positions[i], positions, ways),
             });
             first += *length;
+            size *= ways[i];
         }
-        Groups {
-            groups,
-            size: size_of(ways),
-        }
+        Groups { groups, size }
     }
 
     /// Returns the number of groups.
@@ -224,17 +223,4 @@ fn factor_at(position: u8, positions: &[u8], ways: &[u64]) -> u64
         }
     }
     factor
-}
-
-// Returns the product of all ways.
-fn size_of(ways: &[u64]) -> u64
-    requires positive { ArePositive ways.now }
-    requires fits { product ways.now < 2 ^ 33 }
-    ensures { result ≡ product ways.now }
-{
-    let mut size = 1;
-    for count in ways {
-        size *= *count;
-    }
-    size
 }

@@ -1,6 +1,6 @@
 //! Facts about a material, computed once for many placements.
 
-ghost use Rattle.std.specs.Prelude.{◌≡◌, ◌<◌, ◌≤◌, ◌^◌, ◌==◌, ◌&&◌, ◌||◌, ℕ, true, false, nat_lt, nat_le, length, if◌then◌else◌};
+ghost use Rattle.std.specs.Prelude.{◌≡◌, ◌<◌, ◌≤◌, ◌^◌, ℕ, length, if◌then◌else◌};
 ghost use Rattle.szg_values.specs.Material.{IsMaterial, has_pawns, lead_pawn_code, man_codes};
 ghost use Rattle.szg_count.specs.Laws.{IsIn};
 ghost use Rattle.szg_count.specs.Facts.{key_of, with_exchanged_halves};
@@ -19,7 +19,8 @@ pub struct MaterialInfo {
     lead: u8,
     other: u8,
     code: u8,
-    // the key of the material's men, and of the same men with colours exchanged
+    // the key of the material's men, and of the same men with colours exchanged: the eight digits of each side are
+    // swapped
     keys: [u64; 2],
 }
 
@@ -54,7 +55,7 @@ impl MaterialInfo {
             lead: material.lead_pawns(),
             other: material.other_pawns(),
             code: lead_pawn_code(material, codes.as_slice()),
-            keys: [key, with_exchanged_halves(key)],
+            keys: [key, key / 16777216 + key % 16777216 * 16777216],
         }
     }
 
@@ -138,13 +139,6 @@ fn lead_pawn_code(material: &Material, codes: &[u8]) -> u8
     }
 }
 
-// Returns the key of the same men with colours exchanged: the eight digits of each side are swapped.
-fn with_exchanged_halves(key: u64) -> u64
-    ensures { result ≡ with_exchanged_halves key }
-{
-    key / 16777216 + key % 16777216 * 16777216
-}
-
 // Returns the key of man codes: the sum of 8 to the power of each code.
 fn codes_key(codes: &[u8]) -> u64
     requires few { length codes.now ≤ 6 }
@@ -154,16 +148,7 @@ fn codes_key(codes: &[u8]) -> u64
 {
     let mut key = 0;
     for code in codes {
-        key += code_key(*code);
+        key += 1 << (3 * *code);
     }
     key
-}
-
-// Returns what a man of a code adds to a key: 8 to the power of the code.
-fn code_key(code: u8) -> u64
-    requires { code < 16 }
-    ensures key { result ≡ 8 ^ code }
-    ensures small { result ≤ 2 ^ 45 }
-{
-    1 << (3 * code)
 }

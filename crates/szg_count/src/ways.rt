@@ -5,7 +5,7 @@ ghost use Rattle.std.specs.List.{range_with_len};
 ghost use Rattle.szg_values.specs.Material.{IsMaterial};
 ghost use Rattle.szg_count.specs.Sets.{subsets, choose};
 ghost use Rattle.szg_count.specs.Leads.{lead_pawn_sets};
-ghost use Rattle.szg_count.specs.Groups.{lead_ways, has_other_pawns, IsPart, lead_length};
+ghost use Rattle.szg_count.specs.Groups.{lead_ways, has_other_pawns, IsPart};
 ghost use Rattle.szg_count.specs.Steps.{ArePositive, ways_by};
 
 use arrayvec::ArrayVec;
@@ -80,23 +80,8 @@ pub fn lead_ways(material: &Material, part: u8) -> u64
     requires { IsPart material.now part }
     ensures { result ≡ lead_ways material.now part }
 {
-    material_fits(material);
-    ways_of_lead(material, part)
-}
-
-// For proofs alone: a material has a name, so at most four pawns lead.
-fn material_fits(material: &Material)
-    ensures { IsMaterial material.now }
-{
+    // for proofs alone: a material has a name, so at most four pawns lead
     let _men = material.men();
-}
-
-// `lead_ways` without the invariant of the material, which is required instead.
-fn ways_of_lead(material: &Material, part: u8) -> u64
-    requires material { IsMaterial material.now }
-    requires part { IsPart material.now part }
-    ensures { result ≡ lead_ways material.now part }
-{
     if material.has_pawns() {
         lead_pawn_ways(material.lead_pawns(), part)
     } else if material.single_lead() {
@@ -134,7 +119,7 @@ pub fn group_ways(material: &Material, part: u8, lengths: &[u8]) -> ArrayVec<u64
     ensures positive { ArePositive result.items }
 {
     let has_other = material.other_pawns() > 0;
-    let lead = ways_of_lead(material, part);
+    let lead = lead_ways(material, part);
     let mut ways = ArrayVec::new();
     let mut before = 0;
     for (i, length) in lengths.iter().enumerate() {

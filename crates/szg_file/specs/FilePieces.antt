@@ -1,13 +1,10 @@
 -- The format of a table file in three stages.
-use Rattle.std.specs.Prelude.{ℕ, List, map, option_map, Option}
+use Rattle.std.specs.Prelude.{ℕ, List, Option}
 use Rattle.szg_values.specs.declared.Kind.{Kind}
 use Rattle.szg_values.specs.Material.{Sides}
-use Rattle.szg_file.specs.declared.reading.Opening.{Opening}
-use Rattle.szg_file.specs.declared.reading.Pieces.{Pieces}
 use Rattle.szg_file.specs.Format.{Format, means, field, ◌>>=◌, ◌>>◌}
 use Rattle.szg_file.specs.Contents as held
 use Rattle.szg_file.specs.File.{Begun, each, part_field, filled_to, head_field, maps_field, sparse_field, lengths_field}
-use Rattle.szg_file.specs.Held.{part_of, subtable_of, map_of}
 use Rattle.szg_file.specs.Reading.{start_field}
 
 -- the contents before the sparse indexes: byte 4, the parts, the subtables with their headers alone, and the maps
@@ -36,24 +33,3 @@ measured_field list = do
 -- padding and the last sixteen bytes
 abbrev pub ending_field : Format (List ℕ)
 ending_field = filled_to 64 >> field 16 means
-
--- the contents of an opening that was read
-abbrev pub opened : Opening → Opened
-opened o = record {
-  byte4 = o.byte4;
-  parts = map part_of o.parts.bytes.items;
-  heads = map (λ begun. begun.subtable) o.heads.items;
-  maps = map (option_map map_of) o.maps.items;
-}
-
--- the contents of a file that was read
-abbrev pub contents_of : Sides → Kind → Pieces → held.Contents
-contents_of material kind p = record {
-  material = material;
-  kind = kind;
-  byte4 = p.byte4;
-  parts = map part_of p.parts.bytes.items;
-  subtables = map subtable_of p.subs.items;
-  maps = map (option_map map_of) p.maps.items;
-  last = p.last;
-}

@@ -2,7 +2,7 @@
 use Rattle.std.specs.Prelude.{map, option_map}
 use Rattle.szg_file.specs.Held.{part_of, map_of}
 use Rattle.szg_file.specs.Unread as stated
-use Rattle.szg_file.specs.declared.reading.read_front.FrontRead.{FrontRead}
+use Rattle.szg_file.specs.declared.reading.FrontRead.{FrontRead}
 
 abbrev pub front_read : FrontRead → stated.FrontRead
 front_read f = record {

@@ -3,9 +3,7 @@ use Rattle.std.specs.Prelude.{ℕ, ◌+◌, ◌*◌, ◌≤◌, List, length, op
 use Rattle.std.specs.List.{sum_by}
 use Rattle.szg_block.specs.declared.Sub.{Sub}
 use Rattle.szg_file.specs.declared.reading.state.ReaderState.{ReaderState}
-use Rattle.szg_file.specs.declared.reading.Opening.{Opening}
-use Rattle.szg_file.specs.declared.reading.Pieces.{Pieces}
-use Rattle.szg_file.specs.declared.reading.read_front.FrontRead.{FrontRead}
+use Rattle.szg_file.specs.declared.reading.FrontRead.{FrontRead}
 use Rattle.szg_file.specs.declared.table.PartBytes.{PartBytes}
 use Rattle.szg_file.specs.declared.table.Map.{Map}
 use Rattle.szg_file.specs.Contents.{Part}
@@ -37,18 +35,8 @@ maps_lengths maps = sum_by (λ found. map_lengths (option_map map_of found)) map
 
 -- ---- the total length of all lists
 
-abbrev pub opening_lengths : Opening → ℕ
-opening_lengths o =
-    length o.parts.bytes.items + parts_lengths o.parts.bytes.items + length o.heads.items + begun_lengths o.heads.items
-    + length o.maps.items + maps_lengths o.maps.items
-
 -- subtables count twice, since each has a slot as well
 abbrev pub front_lengths : FrontRead → ℕ
 front_lengths f =
     length f.parts.bytes.items + parts_lengths f.parts.bytes.items + 2 * length f.measured.items + begun_lengths f.measured.items
     + length f.maps.items + maps_lengths f.maps.items
-
-abbrev pub pieces_lengths : Pieces → ℕ
-pieces_lengths p =
-    length p.parts.bytes.items + parts_lengths p.parts.bytes.items + 2 * length p.subs.items + subs_lengths p.subs.items
-    + length p.maps.items + maps_lengths p.maps.items

@@ -2,7 +2,7 @@
 use Rattle.std.specs.Prelude.{ℕ, List, map, option_map}
 use Rattle.szg_values.specs.declared.Kind.{Kind}
 use Rattle.szg_values.specs.Material.{Sides}
-use Rattle.szg_file.specs.declared.reading.outline.Outline.{Outline}
+use Rattle.szg_file.specs.declared.reading.Outline.{Outline}
 use Rattle.szg_file.specs.Contents as held
 use Rattle.szg_file.specs.Held.{part_of, map_of}
 use Rattle.szg_file.specs.Placed.{whole_sub}

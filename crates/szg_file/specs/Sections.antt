@@ -1,12 +1,11 @@
 -- The sections of a table's file that a sink takes.
-use Rattle.std.specs.Prelude.{ℕ, ◌%◌, List, [], ◌∷◌, length, map, flat_map, option_map}
+use Rattle.std.specs.Prelude.{List, map, option_map}
 use Rattle.std.specs.List.{FoldsTo}
 use denote.Ref.{Bor, MutBor}
 use denote.Param.Members.{Shared}
-use Rattle.szg_code.specs.Canonical.{CanonicalCode}
 use Rattle.szg_file.specs.declared.writing.sections.FieldsRef.{FieldsRef}
-use Rattle.szg_file.specs.Contents.{Contents, bytes_of}
-use Rattle.szg_file.specs.FileOf.{Section, written, spare}
+use Rattle.szg_file.specs.Contents.{Contents}
+use Rattle.szg_file.specs.FileOf.{Section}
 use Rattle.szg_file.specs.Held.{part_of, subtable_of, map_of}
 
 -- the contents whose fields these are
@@ -20,15 +19,6 @@ contents_in fields = record {
   maps = map (option_map map_of) fields.maps.now;
   last = fields.last.now;
 }
-
--- a code's greatest and least code length, and its lowest symbols
-abbrev pub code_sections : CanonicalCode → List Section
-code_sections code = written (code.max_length ∷ []) ∷ written (code.min_length ∷ []) ∷ written (flat_map (bytes_of 2) code.lowest) ∷ []
-
--- the number of entries, the entries, and a padding byte if their number is odd
-abbrev pub dictionary_sections : List (List ℕ) → List Section
-dictionary_sections entries =
-    written (bytes_of 2 (length entries)) ∷ written (flat_map (λ entry. entry) entries) ∷ spare (length entries % 2) ∷ []
 
 -- A sink took these sections in order. The sink and its output before, and both after.
 pub record Took {S W : Type 0} (takes : S → W → Section → S → W → Type 0) (sections : List Section) (sink : S) (out : W) (sink' : S) (out' : W) : Type 0 where

@@ -10,7 +10,7 @@ use Rattle.szg_file.specs.Index.{index_of}
 use Rattle.szg_file.specs.Values.{slotted, subtable_at, values_of}
 use Rattle.szg_file.specs.WholeRead.{IsFileRead}
 use Rattle.szg_file.specs.declared.fault.ReadFault.{ReadFault}
-use Rattle.szg_file.specs.declared.reading.scan.Scanned.{Scanned}
+use Rattle.szg_file.specs.declared.reading.Scanned.{Scanned}
 
 -- A sink accepted these values in their order, in chunks. The sink and its output before, and both after.
 pub record Accepted {K W : Type 0} (accepts : K → W → List ℕ → K → W → Type 0) (values : List ℕ) (sink : K) (out : W) (sink' : K) (out' : W) : Type 0 where

@@ -12,7 +12,7 @@ ghost use Rattle.szg_count.specs.Groups as count;
 
 use crate::begun::Slot;
 use crate::passing::{are_maps_valid, are_subs_valid};
-use crate::reading::parts::{Parts, SideSizes, order_count, part_count, part_sizes, push_slots};
+use crate::reading::parts::{Parts, order_count, part_count, part_sizes, push_slots};
 use crate::reading::start::{pawns_as, splits_as};
 use crate::table::{Map, PartBytes, Table};
 use crate::table_index::index_of_subs;
@@ -103,31 +103,8 @@ impl Fields {
     }
 }
 
-/// Returns the sizes of the sides of part `number`. None if the material requires another number of order bytes or
-/// men, or if a side's order fails a check.
-fn sizes_of(
-    material: &Material,
-    kind: Kind,
-    number: u8,
-    order: &[u8],
-    men: &[u8],
-) -> Option<SideSizes>
-    requires { count.IsPart material.now number }
-    ensures none { IfNone result (¬ IsPart material.now kind (part_with order.now men.now)) }
-    ensures part { IfSome result (λ sizes. IsPart material.now kind (part_with order.now men.now)) }
-    ensures slots { IfSome result (λ sizes. part_slots material.now (side_numbers material.now kind) number (part_with order.now men.now) ≡ slots_with number sizes.first sizes.second) }
-    ensures fits { IfSome result (λ sizes. (sizes.first < 2 ^ 33) × IfSome sizes.second (λ second. second < 2 ^ 33)) }
-{
-    if order.len() != order_count(material) || men.len() != material.men().len() {
-        return None;
-    }
-    match part_sizes(material, kind, number, 0, order, men) {
-        Ok(sizes) => Some(sizes),
-        Err(_) => None,
-    }
-}
-
-/// Returns the slots of the subtables. None if a part fails a check.
+/// Returns the slots of the subtables. None if there is a different number of parts than the material requires, or if a part
+/// has a different number of order bytes or men, or fails a check.
 fn slots_of(material: &Material, kind: Kind, parts: &[PartBytes]) -> Option<ArrayVec<Slot, 8>>
     ensures none { IfNone result (¬ SideBySide (λ _. IsPart material.now kind) (part_numbers material.now) (map part_of parts.now)) }
     ensures parts { IfSome result (λ list. SideBySide (λ _. IsPart material.now kind) (part_numbers material.now) (map part_of parts.now)) }
@@ -138,7 +115,16 @@ fn slots_of(material: &Material, kind: Kind, parts: &[PartBytes]) -> Option<Arra
     }
     let mut list = ArrayVec::new();
     'parts: for (n, part) in parts.iter().enumerate() {
-        let sizes = sizes_of(material, kind, n as u8, &part.order, &part.men)?;
+        let (order, men) = (part.order.as_slice(), part.men.as_slice());
+        if order.len() != order_count(material) || men.len() != material.men().len() {
+            return None;
+        }
+        bytes_fit(order);
+        bytes_fit(men);
+        let sizes = match part_sizes(material, kind, n as u8, 0, order, men) {
+            Ok(sizes) => sizes,
+            Err(_) => return None,
+        };
         push_slots(&mut list, n as u8, sizes);
     }
     Some(list)
@@ -174,27 +160,18 @@ impl Table {
         let Some(placed) = slots_of(&fields.material, fields.kind, &fields.parts) else {
             unreachable!()
         };
-        let Fields {
-            material,
-            kind,
-            byte4,
-            parts,
-            subs,
-            maps,
-            fill,
-            last,
-        } = fields;
         let parts = Parts {
-            bytes: parts,
+            bytes: fields.parts,
             slots: placed,
         };
-        let index = index_of_subs(material, kind, parts, &subs, maps);
+        let subs = fields.subs;
+        let index = index_of_subs(fields.material, fields.kind, parts, &subs, fields.maps);
         Table {
             index,
-            byte4,
+            byte4: fields.byte4,
             subs,
-            filled: fill,
-            last,
+            filled: fields.fill,
+            last: fields.last,
         }
     }
 }

@@ -1,6 +1,5 @@
-//! Subtables while they are read: first with their headers, then with their sparse indexes, then with their block
-//! lengths.
-ghost use Rattle.std.specs.Prelude.{ℕ, ◌≡◌, ◌*◌, ◌≤◌, ◌<◌, ◌^◌, length};
+//! Subtables while they are read: first with their headers, then with their sparse indexes and block lengths.
+ghost use Rattle.std.specs.Prelude.{◌*◌, ◌≤◌, ◌<◌, ◌^◌, length};
 
 use std::marker::Model;
 use szg_block::Sub;
@@ -14,7 +13,7 @@ pub struct Slot {
 }
 
 impl Model for Slot {
-    ghost use Rattle.std.specs.Prelude.{ℕ, ◌<◌, ◌^◌};
+    ghost use Rattle.std.specs.Prelude.{◌<◌, ◌^◌};
     ghost use Rattle.szg_file.specs.Contents.{Slot};
 
     ghost Value = { Slot };
@@ -45,28 +44,8 @@ impl Model for Begun {
     ghost invariant = { λ begun. IsHeaded begun.sub };
 }
 
-/// A subtable with its header and its sparse index, which begins at offset `index`.
-#[derive(Drop)]
-pub struct Indexed {
-    pub slot: Slot,
-    pub sub: Sub,
-    pub index: u64,
-}
-
-impl Model for Indexed {
-    ghost use Rattle.szg_file.specs.File.{Begun};
-    ghost use Rattle.std.specs.Prelude.{◌<◌, ◌^◌};
-    ghost use Rattle.szg_block.specs.Subtable.{IsIndexed};
-    ghost use Rattle.szg_file.specs.Held.{subtable_of};
-
-    ghost Value = { Begun };
-
-    ghost view = { λ begun. record { slot = begun.slot; subtable = subtable_of begun.sub; index = begun.index } };
-
-    ghost invariant = { λ begun. IsIndexed begun.sub begun.slot.size × (begun.index < 2 ^ 61) };
-}
-
-/// A subtable with everything but its blocks. The lengths of blocks that no value needs may be missing.
+/// A subtable with its header and its sparse index, which begins at offset `index`; and with its block lengths, once they
+/// are read. The lengths of blocks that no value needs may be missing.
 #[derive(Drop)]
 pub struct Measured {
     pub slot: Slot,
@@ -75,6 +54,7 @@ pub struct Measured {
 }
 
 impl Model for Measured {
+    ghost use Rattle.std.specs.Prelude.{◌<◌, ◌^◌};
     ghost use Rattle.szg_file.specs.File.{Begun};
     ghost use Rattle.szg_block.specs.Subtable.{IsIndexed};
     ghost use Rattle.szg_file.specs.Held.{subtable_of};
@@ -83,7 +63,7 @@ impl Model for Measured {
 
     ghost view = { λ begun. record { slot = begun.slot; subtable = subtable_of begun.sub; index = begun.index } };
 
-    ghost invariant = { λ begun. IsIndexed begun.sub begun.slot.size };
+    ghost invariant = { λ begun. IsIndexed begun.sub begun.slot.size × (begun.index < 2 ^ 61) };
 }
 
 /// The state of a reader of block lengths.

@@ -1,9 +1,9 @@
 //! The distances that a DTZ table's values encode.
-ghost use Rattle.std.specs.Prelude.{◌≡◌, ◌<◌, option_map, IsTrue, Some, IfSome};
+ghost use Rattle.std.specs.Prelude.{◌≡◌, ◌<◌, option_map, Some, IfSome};
 ghost use Rattle.szg_file.specs.Held.{map_of};
-ghost use Rattle.szg_file.specs.Values.{list_number as list_of_class, mapped, in_plies as is_in_plies, distance, number_at as number_of};
+ghost use Rattle.szg_file.specs.Values.{list_number as list_of_class, in_plies as is_in_plies, number_at as number_of};
 
-use crate::flags::has_bit;
+use crate::lookup::has_bit;
 use crate::table::Map;
 
 /// Returns the number of a map's list for a class. None for a draw.
@@ -17,19 +17,6 @@ pub(crate) fn list_number(class: i8) -> Option<usize>
         1 => Some(2),
         -1 => Some(3),
         _ => None,
-    }
-}
-
-/// Returns item `v` of one of a map's lists. None if the list is shorter.
-fn map_item(map: &Map, list: usize, v: u16) -> Option<u16>
-    requires { list < 4 }
-    ensures { result ≡ mapped (Some (map_of map.now)) list v }
-{
-    match map {
-        Map::Bytes(lists) => lists[list]
-            .get(usize::from(v))
-            .map(|number| u16::from(*number)),
-        Map::Wide(lists) => lists[list].get(usize::from(v)).copied(),
     }
 }
 
@@ -48,7 +35,8 @@ pub(crate) fn number_at(flags: u8, map: &Option<Map>, list: usize, v: u16) -> Op
     ensures { result ≡ number_of flags (option_map map_of map.now) list v }
 {
     let number = match map {
-        Some(map) => u32::from(map_item(map, list, v)?),
+        Some(Map::Bytes(lists)) => u32::from(*lists[list].get(usize::from(v))?),
+        Some(Map::Wide(lists)) => u32::from(*lists[list].get(usize::from(v))?),
         None => u32::from(v),
     };
     Some(if in_plies(flags, list) {

@@ -1,6 +1,9 @@
-//! Finding a subtable of a table.
-ghost use Rattle.std.specs.Prelude.{ℕ, List, ◌≡◌, ◌+◌, ◌^◌, ◌<◌, ◌≤◌, ◌&&◌, nat_eq, position, slice_get, length, MatchOption, IfSome, IsSomeAnd, Some, None};
+//! Finding a subtable of a table, and its flags.
+ghost use Rattle.std.specs.Prelude.{◌≡◌, ◌<◌, ◌≤◌, ◌&&◌, nat_eq, position, length, MatchOption, Some, None};
 ghost use Rattle.szg_file.specs.Values.{constant_value as constant_of};
+ghost use Rattle.szg_file.specs.Contents.{has_bit};
+ghost use Rattle.szg_file.specs.File.{flags_of as flags_byte};
+ghost use Rattle.szg_file.specs.Held.{subtable_of};
 ghost use Rattle.szg_file.specs.Lookup.{byte_of};
 ghost use Rattle.szg_file.specs.Placed.{IsSlotted};
 
@@ -67,4 +70,21 @@ pub(crate) fn slotted_at<'a>(
         slot: slots[n],
         placed: &subs[n],
     })
+}
+
+/// Returns the flag byte of a subtable.
+pub(crate) fn flags_of(sub: &Sub) -> u8
+    ensures { result ≡ flags_byte (subtable_of sub.now) }
+{
+    match sub {
+        Sub::Constant { flags, .. } | Sub::Pairs { flags, .. } => *flags,
+    }
+}
+
+/// Returns whether bit `k` of a byte is set. In a flag byte it is flag `2^k`.
+pub fn has_bit(k: u8, byte: u8) -> bool
+    requires { k < 8 }
+    ensures { result ≡ has_bit k byte }
+{
+    (byte >> k) % 2 == 1
 }

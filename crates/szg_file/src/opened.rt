@@ -3,7 +3,6 @@
 pub(crate) mod fetching;
 pub(crate) mod forward;
 pub(crate) mod front_table;
-mod placing;
 
 ghost use Rattle.std.specs.Prelude.{◌≡◌, IsSome, IfOk, IfErr};
 ghost use Rattle.szg_block.specs.BlocksTrait.{Rose};
@@ -16,7 +15,7 @@ use crate::lookup::{Slotted, constant_value, slotted_at};
 use crate::opened::forward::Forward;
 use crate::reading::blocks::block_bytes;
 use crate::reading::dropping::PlacedSub;
-use crate::reading::outline::{Outline, read_outline};
+use crate::reading::read_outline;
 use crate::reading::sink::NoSink;
 use crate::reading::state::ReaderState;
 use crate::table_index::{TableIndex, index_of_placed};
@@ -170,16 +169,9 @@ pub fn open<S: Source + Drop>(
         &mut NoSink,
         &mut (),
     ) {
-        Ok(
-            Outline {
-                byte4: _,
-                parts,
-                subs,
-                maps,
-                last: _,
-            },
-        ) => {
-            let index = index_of_placed(material, kind, parts, &subs, maps);
+        Ok(outline) => {
+            let subs = outline.subs;
+            let index = index_of_placed(material, kind, outline.parts, &subs, outline.maps);
             Ok(Opened {
                 index,
                 subs,

@@ -1,12 +1,12 @@
 //! Checks of assembled subtables and maps, as a reader makes them.
-ghost use Rattle.std.specs.Prelude.{◌≡◌, ◌<◌, ◌^◌, ◌↔◌, IsTrue, length, map, option_map};
+ghost use Rattle.std.specs.Prelude.{◌<◌, ◌^◌, ◌↔◌, IsTrue, length, map, option_map};
 ghost use Rattle.szg_file.specs.Accepted.{SideBySide, AreNumbers, IsSubtable, AreLists, IsMapOf, AreMaps};
 ghost use Rattle.szg_file.specs.Held.{subtable_of, map_of};
 
 use crate::begun::Slot;
-use crate::flags::{flags_of, has_bit};
+use crate::lookup::{flags_of, has_bit};
 use crate::table::Map;
-use crate::typed::sub_fits;
+use crate::typed::{bytes_fit, sub_fits, words_fit};
 use szg_block::{Sub, check, shaped};
 use szg_values::Kind;
 
@@ -43,36 +43,26 @@ pub(crate) fn are_subs_valid(slots: &[Slot], subs: &[Sub]) -> bool
 
 // ---- maps
 
-/// Returns whether the length of a list fits one byte.
-fn short_list_fits(list: &[u8]) -> bool
-    ensures { IsTrue result ↔ ((length list.now < 256 ^ 1) × AreNumbers 1 list.now) }
-{
-    list.len() < 256
-}
-
-/// Returns whether the length of a list fits two bytes.
-fn wide_list_fits(list: &[u16]) -> bool
-    ensures { IsTrue result ↔ ((length list.now < 256 ^ 2) × AreNumbers 2 list.now) }
-{
-    list.len() < 65536
-}
-
+/// Returns whether the length of each list fits one byte.
 fn short_lists_fit(lists: &[Vec<u8>; 4]) -> bool
     ensures { IsTrue result ↔ AreLists 1 (map (λ list. list.items) lists.now) }
 {
     'lists: for list in lists {
-        if !short_list_fits(list) {
+        bytes_fit(list);
+        if list.len() >= 256 {
             return false;
         }
     }
     true
 }
 
+/// Returns whether the length of each list fits two bytes.
 fn wide_lists_fit(lists: &[Vec<u16>; 4]) -> bool
     ensures { IsTrue result ↔ AreLists 2 (map (λ list. list.items) lists.now) }
 {
     'lists: for list in lists {
-        if !wide_list_fits(list) {
+        words_fit(list);
+        if list.len() >= 65536 {
             return false;
         }
     }
@@ -94,27 +84,22 @@ fn is_map_valid(sub: &Sub, map: &Option<Map>) -> bool
     }
 }
 
-/// Returns whether there is one item per subtable, and each is the one that the flags require.
-fn is_each_map_valid(subs: &[Sub], maps: &[Option<Map>]) -> bool
-    ensures { IsTrue result ↔ SideBySide IsMapOf (map subtable_of subs.now) (map (option_map map_of) maps.now) }
-{
-    if subs.len() != maps.len() {
-        return false;
-    }
-    'maps: for (n, map) in maps.iter().enumerate() {
-        if !is_map_valid(&subs[n], map) {
-            return false;
-        }
-    }
-    true
-}
-
-/// Returns whether the maps are those that the kind and the flags require.
+/// Returns whether the maps are those that the kind and the flags require: none, or one item per subtable.
 pub(crate) fn are_maps_valid(kind: Kind, subs: &[Sub], maps: &[Option<Map>]) -> bool
     ensures { IsTrue result ↔ AreMaps kind (map subtable_of subs.now) (map (option_map map_of) maps.now) }
 {
     match kind {
         Kind::Wdl => maps.is_empty(),
-        Kind::Dtz => is_each_map_valid(subs, maps),
+        Kind::Dtz => {
+            if subs.len() != maps.len() {
+                return false;
+            }
+            'maps: for (n, map) in maps.iter().enumerate() {
+                if !is_map_valid(&subs[n], map) {
+                    return false;
+                }
+            }
+            true
+        }
     }
 }

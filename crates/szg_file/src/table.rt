@@ -10,7 +10,7 @@ use szg_block::{Sound, Steps, Sub};
 use szg_values::{Kind, Material};
 
 /// The bytes of a part, as in the file: low nibbles belong to side 0, high nibbles to side 1.
-#[derive(Drop)]
+#[derive(Drop, PartialEq)]
 pub struct PartBytes {
     /// One order byte, or two if both colours have pawns.
     pub order: Vec<u8>,
@@ -19,7 +19,7 @@ pub struct PartBytes {
 }
 
 /// The four lists of a DTZ part: for wins, losses, cursed wins and blessed losses.
-#[derive(Drop)]
+#[derive(Drop, PartialEq)]
 pub enum Map {
     /// Items of one byte each.
     Bytes([Vec<u8>; 4]),

@@ -1,5 +1,5 @@
 //! The index of a table: which subtables it has, with their flags and maps.
-ghost use Rattle.std.specs.Prelude.{◌≡◌, ◌≢◌, ◌<◌, ◌≤◌, ◌↔◌, ◌≤ℤ◌, ◌+◌, ◌*◌, ◌∷◌, [], ℤ, pos, neg_ℤ, if◌then◌else◌, length, map, option_map, IsSome, IsTrue, MatchOption, Ok, Err, Some, None};
+ghost use Rattle.std.specs.Prelude.{◌≡◌, ◌≢◌, ◌<◌, ◌≤◌, ◌↔◌, ◌≤ℤ◌, ℤ, pos, neg_ℤ, length, map, option_map, IsSome, IsTrue, MatchOption, Ok, Err, Some, None};
 ghost use Rattle.szg_values.specs.Material.{IsMaterial};
 ghost use Rattle.szg_count.specs.Grouped.{AreGroupsOf};
 ghost use Rattle.szg_file.specs.Accepted.{SideBySide, IsPart};
@@ -9,11 +9,9 @@ ghost use Rattle.szg_file.specs.File.{flags_of as flags_byte};
 ghost use Rattle.szg_file.specs.Index.{AreSlotGroups, Index, IsIndex, IsNumbered, IsOrderedSlot, index_with, nibbles_in_part, number_in, slot_in, slot_number as number_of, slots_in};
 
 use crate::begun::Slot;
-use crate::comparing::{same_maps, same_parts};
 use crate::distances::{list_number, number_at};
 use crate::fault::MapFault;
-use crate::flags::flags_of;
-use crate::lookup::slot_number;
+use crate::lookup::{flags_of, slot_number};
 use crate::reading::dropping::PlacedSub;
 use crate::reading::parts::Parts;
 use crate::table::{Map, PartBytes};
@@ -126,17 +124,6 @@ fn groups_of_slot(material: &Material, parts: &[PartBytes], slot: Slot) -> SideG
     SideGroups::of(material, slot.part, order)
 }
 
-// Returns the number of a subtable in file order, from 0.
-fn slot_number_of(two_sides: bool, part: u8, side: u8) -> usize
-    ensures { result ≡ (if two_sides then 2 * part + side else part) }
-{
-    if two_sides {
-        2 * usize::from(part) + usize::from(side)
-    } else {
-        usize::from(part)
-    }
-}
-
 /// A subtable's number in file order, from 0, and its slot.
 #[derive(Clone, Copy)]
 pub struct Numbered {
@@ -191,21 +178,16 @@ impl TableIndex {
         requires side { side < length (side_numbers self.now.material self.now.kind) }
         ensures { AreGroupsOf self.now.material part (nibbles_in_part self.now.parts part side) result.now }
     {
-        let number = slot_number_of(self.has_two_sides(), part, side);
+        let two_sides = match self.kind {
+            Kind::Wdl => !self.info.symmetric(),
+            Kind::Dtz => false,
+        };
+        let (part, side) = (usize::from(part), usize::from(side));
+        let number = if two_sides { 2 * part + side } else { part };
         let Some(groups) = &self.groups[number] else {
             unreachable!()
         };
         groups
-    }
-
-    // Returns whether each part has subtables for both sides: in WDL, unless the material is symmetric.
-    fn has_two_sides(&self) -> bool
-        ensures { side_numbers self.now.material self.now.kind ≡ (if result then 0 ∷ 1 ∷ [] else 0 ∷ []) }
-    {
-        match self.kind {
-            Kind::Wdl => !self.info.symmetric(),
-            Kind::Dtz => false,
-        }
     }
 
     /// Returns the kind of the table's values: outcomes or distances.
@@ -252,9 +234,9 @@ impl TableIndex {
     pub fn has_same(&self, other: &TableIndex) -> bool
         ensures { IsTrue result ↔ ((self.now.parts ≡ other.now.parts) × (self.now.flags ≡ other.now.flags) × (self.now.maps ≡ other.now.maps)) }
     {
-        same_parts(&self.parts.bytes, &other.parts.bytes)
+        self.parts.bytes == other.parts.bytes
             && self.flags.as_slice() == other.flags.as_slice()
-            && same_maps(&self.maps, &other.maps)
+            && self.maps == other.maps
     }
 
     /// Finds the subtable of a part and side. None if the table has no such part or side.

@@ -48,7 +48,7 @@ fn entries_fit(dict: &Dict)
 }
 
 /// The numbers of a subtable fit their types, and its code and its dictionary are accepted.
-pub(crate) fn sub_fits(sub: &Sub)
+pub fn sub_fits(sub: &Sub)
     ensures { IsTyped (subtable_of sub.now) }
 {
     match sub {

@@ -1,6 +1,5 @@
 //! The files of the system.
-ghost use Rattle.std.specs.Prelude.{◌≡◌, ◌<◌, ◌+◌, ◌^◌, ◌-◌, min, None, [], IfOk, length};
-ghost use Rattle.szg_io.specs.Counts.{counts_of};
+ghost use Rattle.std.specs.Prelude.{◌≡◌, ◌<◌, None, IfOk, length};
 ghost use Rattle.szg_files.specs.Disk.{failures_of};
 
 use crate::file_system::{FileFault, FileSystem, Reasons};
@@ -125,7 +124,8 @@ impl<'a, R: Files, P: ReadWatcher> Disk<'a, R, P> {
         ensures { failures_of self.new ≡ failures_of self.old }
     {
         match self.open_regular(path) {
-            Err(fault) if is_full(&fault) => {
+            Err(FileFault::System(error))
+                if matches!(error.raw_os_error(), Some(PROCESS_IS_FULL | SYSTEM_IS_FULL)) => {
                 self.kept.clear();
                 self.open_regular(path)
             }
@@ -164,17 +164,6 @@ impl<'a, F: Read + Seek + OpenFile, P: ReadWatcher> SystemFile<'a, F, P> {
     }
 }
 
-/// Returns whether there is no room for a further open file.
-fn is_full(fault: &FileFault) -> bool {
-    match fault {
-        FileFault::System(error) => matches!(
-            error.raw_os_error(),
-            Some(PROCESS_IS_FULL | SYSTEM_IS_FULL)
-        ),
-        _ => false,
-    }
-}
-
 impl From<Error> for FileFault {
     fn from(error: Error) -> FileFault {
         match error.kind() {
@@ -207,7 +196,10 @@ impl<'a, R: Files, P: ReadWatcher> FileSystem for Disk<'a, R, P> {
         // later ranges are of the file that is there now
         self.kept.retain(|kept| kept.path.as_str() != path);
         let opened = match self.open_with_room(path) {
-            Ok(file) => buffered(self.alloc, file),
+            Ok(file) => match BufReader::with_capacity(self.alloc, BUFFER, Monitored::new(file)) {
+                Ok(reader) => Ok(Std::new(reader)),
+                Err(_) => Err(FileFault::Memory),
+            },
             Err(fault) => Err(fault),
         };
         if opened.is_err() {
@@ -240,18 +232,5 @@ impl<'a, R: Files, P: ReadWatcher> FileSystem for Disk<'a, R, P> {
             self.kept.swap_remove(number);
         }
         read
-    }
-}
-
-/// Reads an opened file through a buffer.
-fn buffered<'a, F: Read + Drop, P: ReadWatcher>(
-    alloc: Global,
-    file: SystemFile<'a, F, P>,
-) -> Result<DiskFile<'a, F, P>, FileFault>
-    ensures { IfOk result (λ file. (counts_of file).moved ≡ []) }
-{
-    match BufReader::with_capacity(alloc, BUFFER, Monitored::new(file)) {
-        Ok(reader) => Ok(Std::new(reader)),
-        Err(_) => Err(FileFault::Memory),
     }
 }

@@ -80,27 +80,13 @@ pub struct Published<'a> {
 /// The most bytes of a target's name that the temporary file's name begins with: a name has at most 255 bytes.
 const KEPT: usize = 240;
 
-/// Returns the longest beginning of a text with at most `most` bytes.
-fn beginning(text: &str, most: usize) -> &str {
-    'ends: for less in 0..most {
-        if let Some(beginning) = text.get(..most - less) {
-            return beginning;
-        }
-    }
-    ""
-}
-
 /// Returns the path of a temporary file of this number beside a target.
 fn path_beside(alloc: Global, target: &str, number: u32) -> Result<String, AllocError> {
     let (folder, slash, name) = match target.rsplit_once('/') {
         Some((folder, name)) => (folder, "/", name),
         None => ("", "", target),
     };
-    let kept = if name.len() > KEPT {
-        beginning(name, KEPT)
-    } else {
-        name
-    };
+    let kept = &name[..name.floor_char_boundary(KEPT)];
     format!(in alloc; "{folder}{slash}{kept}.{number}.new")
 }
 

@@ -68,11 +68,6 @@ struct FolderWalk<'a, R: Files> {
     found: Vec<Below>,
 }
 
-/// Returns whether a path is that of a folder, or of a link to one. Errors: the system's reason.
-pub fn is_folder<R: Files>(files: &R, path: &str) -> Result<bool, FileFault> {
-    Ok(files.metadata(path)?.is_dir())
-}
-
 /// Returns all that is below a folder and is no folder, and the folders that weren't read, in the byte order of their paths.
 /// A link to a folder is followed once, and not if it leads to a folder that it is in.
 pub fn files_below<R: Files>(
@@ -87,7 +82,15 @@ pub fn files_below<R: Files>(
         followed: Vec::new(alloc),
         found: Vec::new(alloc),
     };
-    walk.begin(folder)?;
+    let path = String::from_str(alloc, folder.trim_end_matches('/'))?;
+    match files.metadata(folder) {
+        Ok(metadata) => walk.folders.push(Folder {
+            path,
+            node: FolderId::of(&metadata),
+            parent: None,
+        })?,
+        Err(error) => walk.add(path, Finding::Unread(FileFault::System(error)))?,
+    }
     'folders: for number in 0..usize::MAX {
         if number >= walk.folders.len() {
             break;
@@ -100,21 +103,6 @@ pub fn files_below<R: Files>(
 }
 
 impl<'a, R: Files> FolderWalk<'a, R> {
-    /// Begins with a folder.
-    fn begin(&mut self, folder: &str) -> Result<(), AllocError> {
-        let path = String::from_str(self.alloc, folder.trim_end_matches('/'))?;
-        match self.files.metadata(folder) {
-            Ok(metadata) => Ok(
-                self.folders.push(Folder {
-                    path,
-                    node: FolderId::of(&metadata),
-                    parent: None,
-                })?,
-            ),
-            Err(error) => self.add(path, Finding::Unread(FileFault::System(error))),
-        }
-    }
-
     /// Takes note of a path.
     fn add(&mut self, path: String, finding: Finding) -> Result<(), AllocError> {
         Ok(self.found.push(Below { path, finding })?)

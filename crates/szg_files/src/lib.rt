@@ -12,7 +12,7 @@ mod ranges;
 pub use disk::{Disk, DiskFile, ReadWatcher, SystemFile};
 pub use draft::{Draft, DraftFile, Lock, Published, Sealed};
 pub use file_system::{FileFault, FileSystem, Reasons};
-pub use folders::{Below, Finding, files_below, is_folder};
+pub use folders::{Below, Finding, files_below};
 pub use memory::{MemoryFile, MemoryFiles};
 pub use monitored::Monitored;
 pub use ranges::read_range;

@@ -87,12 +87,10 @@ impl<T: Write> Write for Monitored<T> {
     }
 
     fn flush(&mut self) -> io::Result<()> {
-        match self.inner.flush() {
-            Ok(()) => Ok(()),
-            Err(error) => {
-                self.error = Some(error);
-                Err(error)
-            }
+        let answer = self.inner.flush();
+        if let Err(error) = answer {
+            self.error = Some(error);
         }
+        answer
     }
 }

@@ -1,6 +1,6 @@
 //! Tables whose files are in memory, as mapped files are: what grows with the file is read where it stands. Sparse indexes
 //! and block lengths are checked when a table is opened, and a block when a value of it is first read.
-ghost use Rattle.std.specs.Prelude.{ℕ, List, ◌≡◌, ◌+◌, ◌*◌, ◌/◌, ◌^◌, ◌<◌, ◌≤◌, IfErr, IfNone, IfOk, IfSome, MatchOption, None, length, drop, sum_by};
+ghost use Rattle.std.specs.Prelude.{◌≡◌, ◌+◌, ◌*◌, ◌/◌, ◌^◌, ◌<◌, ◌≤◌, IfErr, IfNone, IfOk, IfSome, MatchOption, None, length, drop, sum_by};
 ghost use Rattle.szg_block.specs.Subtable.{layout_of, HasSoundIndex, IsShapedHead};
 ghost use Rattle.szg_file.specs.Accepted.{SideBySide};
 ghost use Rattle.szg_file.specs.Format.{verdict};
@@ -172,13 +172,9 @@ impl<'a> TableInPlace<'a> {
         let Some(found) = block_for(sub, slot.size, i) else {
             return Err(FetchFault::Source);
         };
-        let BlockSpot {
-            value,
-            offset,
-            count,
-        } = found.spot;
-        let first = offset as usize;
-        let block = &self.bytes[first..first + count as usize];
+        let spot = found.spot;
+        let (value, first) = (spot.value, spot.offset as usize);
+        let block = &self.bytes[first..first + spot.count as usize];
         let is_noted = passed.has(part, side, value.block);
         match value_in_block(&sub.placed.sub, value, found.needed, block, is_noted) {
             Ok(value_found) => {
@@ -189,7 +185,7 @@ impl<'a> TableInPlace<'a> {
             }
             Err(_) => Err(FetchFault::Block {
                 number: value.block,
-                offset,
+                offset: spot.offset,
             }),
         }
     }

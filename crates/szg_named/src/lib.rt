@@ -1,8 +1,10 @@
-//! The name and kind of a table in a path, and the texts of faults of names and files.
+//! The name and kind of a table in a path, how a check of files is asked for, and the texts of faults of names and files.
 #![tactic(auto)]
 
+mod checks;
 mod named;
 mod texts;
 
+pub use checks::{FileShard, ReportFormat};
 pub use named::{Naming, named_as, named_by};
-pub use texts::{error_text, fault_text, name_word, reason_word};
+pub use texts::{error_text, fault_text, name_word};

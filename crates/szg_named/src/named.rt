@@ -1,6 +1,6 @@
 //! The table's name and kind in a path.
 ghost use Rattle.std.specs.Prelude.{◌≡◌, option_map};
-ghost use Rattle.szg_named.specs.Named.{kind_by, name_given, named_as, named_by};
+ghost use Rattle.szg_named.specs.Named.{name_given, named_as, named_by};
 
 use std::path::Path;
 use szg_values::Kind;
@@ -17,29 +17,24 @@ pub struct Naming<'a> {
 pub fn named_by(path: &str) -> Option<(&str, Kind)>
     ensures { option_map (λ named. (named.0.now, named.1)) result ≡ named_by path.now }
 {
-    match (Path::new(path).file_stem(), kind_by(path)) {
-        (Some(name), Some(kind)) => Some((name, kind)),
-        _ => None,
-    }
-}
-
-/// Returns the kind of table of a path's extension.
-fn kind_by(path: &str) -> Option<Kind>
-    ensures { result ≡ kind_by path.now }
-{
-    match Path::new(path).extension() {
-        Some("rtbw") => Some(Kind::Wdl),
-        Some("rtbz") => Some(Kind::Dtz),
-        _ => None,
-    }
+    let naming = Naming {
+        name: None,
+        kind: None,
+    };
+    named_as(naming, path)
 }
 
 /// Returns the table's name and kind: those that are given, else those in the path. None if one is missing.
 pub fn named_as<'a>(naming: Naming<'a>, path: &'a str) -> Option<(&'a str, Kind)>
     ensures { option_map (λ named. (named.0.now, named.1)) result ≡ named_as (name_given naming.entry) naming.entry.kind path.now }
 {
+    let kind = match Path::new(path).extension() {
+        Some("rtbw") => Some(Kind::Wdl),
+        Some("rtbz") => Some(Kind::Dtz),
+        _ => None,
+    };
     let name = naming.name.or(Path::new(path).file_stem());
-    match (name, naming.kind.or(kind_by(path))) {
+    match (name, naming.kind.or(kind)) {
         (Some(name), Some(kind)) => Some((name, kind)),
         _ => None,
     }

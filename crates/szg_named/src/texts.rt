@@ -1,10 +1,9 @@
 //! The texts of faults.
 ghost use Rattle.std.specs.Prelude.{◌≡◌};
-ghost use Rattle.szg_named.specs.Texts.{name_word, reason_word};
+ghost use Rattle.szg_named.specs.Texts.{name_word};
 
 use std::alloc::{AllocError, Global};
 use std::io::{Error, ErrorKind};
-use szg_file::Reason;
 use szg_files::FileFault;
 use szg_values::NameFault;
 
@@ -41,31 +40,5 @@ pub fn name_word(fault: NameFault) -> &'static str
         NameFault::Order => "Order",
         NameFault::Sides => "Sides",
         NameFault::Men => "Men",
-    }
-}
-
-/// Returns the word for a failing check of a file: the name of its variant.
-pub fn reason_word(reason: Reason) -> &'static str
-    ensures { result.now ≡ reason_word reason }
-{
-    match reason {
-        Reason::Truncated => "Truncated",
-        Reason::Magic => "Magic",
-        Reason::SplitBit => "SplitBit",
-        Reason::PawnBit => "PawnBit",
-        Reason::Pieces => "Pieces",
-        Reason::PawnsFirst => "PawnsFirst",
-        Reason::OrderPlace => "OrderPlace",
-        Reason::BlockBits => "BlockBits",
-        Reason::SpanBits => "SpanBits",
-        Reason::CodeLengths => "CodeLengths",
-        Reason::LowestOrder => "LowestOrder",
-        Reason::TooFull => "TooFull",
-        Reason::Child => "Child",
-        Reason::Cycle => "Cycle",
-        Reason::LongSymbol => "LongSymbol",
-        Reason::ShortTotal => "ShortTotal",
-        Reason::SparseEntry => "SparseEntry",
-        Reason::Word => "Word",
     }
 }

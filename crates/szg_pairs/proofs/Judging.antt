@@ -4,8 +4,14 @@ use Rattle.std.proofs.lemmas.Bool.{cases_lt}
 use Rattle.szg_pairs.specs.Expansion.{Expands}
 use Rattle.szg_pairs.specs.Dictionary.{FailsFirst, HasExpansion, HasShortExpansion}
 use Rattle.szg_pairs.specs.Walk.{AreLengths}
-use Rattle.szg_pairs.specs.State.{IsDictState, IsFirstIndex}
+use Rattle.szg_pairs.specs.State.{IsDictState}
 use Rattle.szg_pairs.proofs.Expanding.{Expands-unique, Expands-expansion_of}
+
+-- s is the first index of the list whose number has the property P
+pub record IsFirstIndex (P : ℕ → Type 0) (numbers : List ℕ) (s : ℕ) : Type 0 where
+  pub there : s < length numbers
+  pub before : (k : ℕ) → k < s → ¬ P (get_or numbers k 0)
+  pub here : P (get_or numbers s 0)
 
 module _ (entries : List (List ℕ)) (lengths : List ℕ) (found : AreLengths entries lengths) where
   expands_at : (s : ℕ) → s < length entries → 0 < get_or lengths s 0 → (values : List ℕ) × Expands entries s values

@@ -11,12 +11,6 @@ pub record IsDictState (entries : List (List ℕ)) (lengths : List ℕ) : Type 0
   pub same_length : length lengths ≡ length entries
   pub each : (s : ℕ) → s < length entries → slice_index lengths s ≡ length (expansion_of entries s)
 
--- s is the first index of the list whose number has the property P
-pub record IsFirstIndex (P : ℕ → Type 0) (numbers : List ℕ) (s : ℕ) : Type 0 where
-  pub there : s < length numbers
-  pub before : (k : ℕ) → k < s → ¬ P (slice_index numbers k)
-  pub here : P (slice_index numbers s)
-
 -- the values of the symbols on a stack, from its top; the top is the last item of the list
 abbrev pub stack_values : List (List ℕ) → List ℕ → List ℕ
 stack_values entries [] = []

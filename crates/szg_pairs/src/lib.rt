@@ -1,19 +1,17 @@
 //! Pair dictionaries of Syzygy tables: each symbol is a single value or a pair of symbols.
 #![tactic(auto)]
 
-ghost use Rattle.std.specs.Prelude.{◌≡◌, ◌<◌, ◌≤◌, ◌⊎◌, length, slice_get, ℕ, Some, IfOk, IfErr, IsErrOf, OnOk};
+ghost use Rattle.std.specs.Prelude.{◌≡◌, ◌<◌, ◌≤◌, ◌⊎◌, length, slice_get, ℕ, Some, IfOk, IfErr, IsErrOf, MatchOption};
 ghost use Rattle.szg_pairs.specs.Expansion.{expansion_of, depths_of};
-ghost use Rattle.szg_pairs.specs.Dictionary.{IsDictionary, IsDictionaryFault};
+ghost use Rattle.szg_pairs.specs.Dictionary.{FailsFirst, IsDictionary, IsDictionaryFault};
 ghost use Rattle.szg_pairs.specs.Entry.{NamesSymbols};
 
-use entry::{is_leaf, left, right};
-use faults::{first_child, first_cycle, first_long};
+use entry::{is_leaf, left, names_symbols_below, right};
 use std::alloc::{AllocError, Global};
 use std::marker::Model;
 use walk::find_lengths;
 
 pub mod entry;
-mod faults;
 pub mod laws;
 mod walk;
 
@@ -94,11 +92,11 @@ impl Dict {
             return Err(DictFault::Child(symbol));
         }
         let lengths = find_lengths(alloc, &entries)?;
-        if let Some(symbol) = first_cycle(&lengths) {
-            return Err(DictFault::Cycle(symbol));
+        if let Some(symbol) = lengths.iter().position(|length| *length == 0) {
+            return Err(DictFault::Cycle(symbol as u16));
         }
-        if let Some(symbol) = first_long(&lengths) {
-            return Err(DictFault::LongSymbol(symbol));
+        if let Some(symbol) = lengths.iter().position(|length| *length > 256) {
+            return Err(DictFault::LongSymbol(symbol as u16));
         }
         Ok(Dict { entries, lengths })
     }
@@ -190,4 +188,18 @@ impl Dict {
         }
         Ok(values)
     }
+}
+
+/// Returns the least symbol whose pair has a child that does not exist. None if there is none.
+fn first_child(entries: &[[u8; 3]]) -> Option<u16>
+    requires { length entries.now ≤ 65535 }
+    ensures { MatchOption result ((s : ℕ) → NamesSymbols entries.now s) (λ s. FailsFirst (NamesSymbols entries.now) s) }
+{
+    let symbols = entries.len() as u16;
+    for symbol in 0..symbols {
+        if !names_symbols_below(symbols, entries[symbol as usize]) {
+            return Some(symbol);
+        }
+    }
+    None
 }

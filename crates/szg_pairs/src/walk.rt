@@ -1,6 +1,6 @@
 //! Computes the number of values of each symbol by a walk down the pairs. Each symbol is entered once, and the path
 //! is a list, so the call depth does not grow with the depth of the pairs.
-ghost use Rattle.std.specs.Prelude.{ℕ, true, ◌≡◌, ◌-◌, ◌<◌, ◌≤◌, [], ◌∷◌, ◌++◌, length, slice_get, slice_set, slice_index, Some, IsTrue, IfOk, IfErr, IfSome, OnOk};
+ghost use Rattle.std.specs.Prelude.{ℕ, true, ◌≡◌, ◌-◌, ◌<◌, ◌≤◌, [], ◌∷◌, ◌++◌, length, slice_get, slice_set, slice_index, Some, IsTrue, IfOk, IfErr, OnOk};
 ghost use Rattle.szg_pairs.specs.Entry.{is_leaf, names_symbols_below, NamesSymbols};
 ghost use Rattle.szg_pairs.specs.Walk.{AreLengths, LengthOfKind, IsMissing, IsWalk, IsSeen, StaysSeen, work_left};
 

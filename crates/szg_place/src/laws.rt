@@ -10,7 +10,6 @@ ghost use Rattle.szg_place.specs.Layout.{IsLayout};
 ghost use Rattle.szg_place.specs.Spots.{board_at, place_fault, placement_refusal, spot_of};
 ghost use Rattle.szg_place.specs.Tables.{numbering_of, numbering_in};
 
-use crate::typed::index_fits;
 use szg_file::{Table, TableIndex};
 
 /// Ranking the squares of each group in the group's ordered list, and unranking these ranks, returns the squares.
@@ -54,7 +53,8 @@ pub fn spot_of_image()
 pub fn table_numbering(table: &Table)
     ensures { IsLayout (numbering_of table.now.contents) }
 {
-    index_fits(table.index());
+    // for proofs alone: a `TableIndex` is valid, and its material is the men of a name
+    let _ = table.index().material_info();
 }
 
 /// If `placement_of` returns a placement for a part, side and index, `index_of` returns the same part, side and index
@@ -80,5 +80,6 @@ pub fn index_in_placement(table: &TableIndex, part: u8, side: u8, index: u64)
     ensures spot { IsNone (placement_refusal (numbering_in table.now) part side) →
         spot_of (numbering_in table.now) (board_at (numbering_in table.now) part side index) ≡ record { part = part; side = side; index = index } }
 {
-    index_fits(table);
+    // for proofs alone: a `TableIndex` is valid, and its material is the men of a name
+    let _ = table.material_info();
 }

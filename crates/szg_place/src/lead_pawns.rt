@@ -1,11 +1,11 @@
 //! Ranks of lead pawns. The pawns are listed by the values P of their squares (`PAWN_NUMBERS`), the greatest first.
 
-ghost use Rattle.std.specs.Prelude.{◌≡◌, ◌<◌, ◌≤◌, ◌^◌, ◌+◌, ◌-◌, ◌*◌, ◌∷◌, ℕ, [], length, map, Some, slice_get, slice_index};
-ghost use Rattle.arrayvec.specs.ArrayVec.{array_vec_len};
+ghost use Rattle.std.specs.Prelude.{◌≡◌, ◌<◌, ◌≤◌, ◌^◌, ◌+◌, ◌-◌, ◌*◌, ℕ, length, map, Some, slice_get, slice_index};
 ghost use Rattle.szg_count.specs.Sets.{choose, subsets, IsFallingBelow};
 ghost use Rattle.szg_count.specs.Leads.{lead_pawn_sets};
 ghost use Rattle.szg_count.specs.Laws.{IsIn};
 
+use crate::slots::append_pawns;
 use arrayvec::ArrayVec;
 use szg_count::{choose, unrank_subset};
 use szg_values::MAX_MEN;
@@ -79,18 +79,10 @@ fn rank_pawns(squares: &[u8]) -> u64
     let mut number = 0;
     let mut left = squares.len() as u64;
     for square in squares {
-        number += choose(u64::from(pawn_number(*square)), left);
+        number += choose(u64::from(PAWN_NUMBERS[usize::from(*square)]), left);
         left -= 1;
     }
     number
-}
-
-// Returns the value P of a square.
-fn pawn_number(square: u8) -> u8
-    requires { square < 64 }
-    ensures { result ≡ slice_index PAWN_NUMBERS square }
-{
-    PAWN_NUMBERS[usize::from(square)]
 }
 
 /// Returns the squares of `pawns` lead pawns: set `number` in the ordered list of their file.
@@ -105,20 +97,9 @@ pub fn unrank_lead_pawns(pawns: u8, file: u8, number: u64) -> ArrayVec<u8, MAX_M
     let first = 8 * rank + file;
     let rest = number - ways_before(usize::from(pawns), file, rank);
     let numbers = unrank_subset(PAWN_NUMBERS[usize::from(first)], pawns - 1, rest);
-    squares_from(first, numbers.as_slice())
-}
-
-// Returns `first`, and then the squares with these values P.
-fn squares_from(first: u8, numbers: &[u8]) -> ArrayVec<u8, MAX_MEN>
-    requires few { length numbers.now ≤ 5 }
-    requires below { (n : ℕ) → IsIn n numbers.now → n < 48 }
-    ensures { result.items ≡ first ∷ map (λ n. slice_index PAWN_SQUARES n) numbers.now }
-{
     let mut squares = ArrayVec::new();
     squares.push(first);
-    for number in numbers {
-        squares.push(PAWN_SQUARES[usize::from(*number)]);
-    }
+    append_pawns(&mut squares, numbers.as_slice());
     squares
 }
 

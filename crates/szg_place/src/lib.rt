@@ -24,7 +24,6 @@ mod spots;
 mod stored_side;
 mod tables;
 pub mod triples;
-mod typed;
 pub mod unranking;
 
 pub use men::has_men_of;

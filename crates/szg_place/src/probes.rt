@@ -1,6 +1,6 @@
 //! Probes: the class or the DTZ number of a placement, wherever the table's blocks are.
 
-ghost use Rattle.std.specs.Prelude.{◌≡◌, ◌≤ℤ◌, pos, neg_ℤ, IsNone, IsSome, IfSome, Err};
+ghost use Rattle.std.specs.Prelude.{◌≡◌, ◌≤ℤ◌, pos, neg_ℤ, IsNone, IfSome, Err};
 ghost use Rattle.szg_file.specs.Index.{slot_in};
 ghost use Rattle.szg_place.specs.Probes.{IsMeant, as_class, as_number};
 ghost use Rattle.szg_place.specs.Spots.{place_fault, spot_of};
@@ -178,20 +178,8 @@ pub fn probe_number<V: Values + Drop>(
         Ok(value) => value,
         Err(fault) => return Err(Unprobed::Fetch(fault)),
     };
-    match number_of(values.index(), spot.part, class, value) {
+    match values.index().map_value(spot.part, class, value) {
         Ok(number) => Ok(number),
         Err(fault) => Err(Unprobed::Map(fault)),
     }
-}
-
-// Returns the number of a DTZ value of a part in a class.
-#[inline(always)]
-fn number_of(index: &TableIndex, part: u8, class: i8, value: u16) -> Result<u32, MapFault>
-    requires kind { index.now.kind ≡ Kind.Dtz }
-    requires part { IsSome (slot_in index.now part 0) }
-    requires lowest { neg_ℤ (pos 2) ≤ℤ class }
-    requires highest { class ≤ℤ pos 2 }
-    ensures { result ≡ as_number index.now part class value }
-{
-    index.map_value(part, class, value)
 }

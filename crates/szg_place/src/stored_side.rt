@@ -1,20 +1,19 @@
 //! The side that a table stores.
 
-ghost use Rattle.std.specs.Prelude.{◌≡◌, ◌%◌, ◌&&◌, not, [], slice_index, if◌then◌else◌};
-ghost use Rattle.szg_values.specs.Material.{has_pawns, is_symmetric};
+ghost use Rattle.std.specs.Prelude.{◌≡◌, ◌%◌, ◌&&◌, [], slice_index, if◌then◌else◌};
 ghost use Rattle.szg_place.specs.Layout.{is_dtz, layout_in};
 ghost use Rattle.szg_place.specs.Spots.{is_wrong_side};
 
 use szg_count::MaterialInfo;
 use szg_values::Kind;
 
-/// Returns the side of the subtable for a side to move: the same in WDL, 0 in DTZ, where each part has one subtable.
-pub(crate) fn side_at(kind: Kind, queried: u8) -> u8
-    ensures { result ≡ (if is_dtz kind then 0 else queried) }
+/// Returns a side by a table's kind: `side` in WDL, `stored` in DTZ, where each part has one subtable.
+pub(crate) fn side_in(kind: Kind, stored: u8, side: u8) -> u8
+    ensures { result ≡ (if is_dtz kind then stored else side) }
 {
     match kind {
-        Kind::Wdl => queried,
-        Kind::Dtz => 0,
+        Kind::Wdl => side,
+        Kind::Dtz => stored,
     }
 }
 

@@ -1,24 +1,20 @@
 //! The placement of an index, and the squares of its men, group by group.
 
-ghost use Rattle.std.specs.Prelude.{◌≡◌, ◌+◌, ◌++◌, ◌<◌, ◌≤◌, ◌^◌, ◌==◌, ◌&&◌, ℕ, List, [], length, None, IsNone, IsSome, IfSome, Ok, Err, if◌then◌else◌};
+ghost use Rattle.std.specs.Prelude.{◌≡◌, ◌+◌, ◌++◌, ◌<◌, ◌≤◌, ◌==◌, ◌&&◌, ℕ, List, [], length, None, IsNone, IsSome, IfSome, Ok, Err, if◌then◌else◌};
 ghost use Rattle.std.specs.List.{concat, zip};
 ghost use Rattle.arrayvec.specs.ArrayVec.{array_vec_len};
-ghost use Rattle.szg_count.specs.Groups.{IsPart, Nibbles, order_fault, groups_of, counted, product};
+ghost use Rattle.szg_count.specs.Groups.{IsPart, Nibbles, order_fault, counted, product};
 ghost use Rattle.szg_count.specs.Laws.{IsIn};
-ghost use Rattle.szg_count.specs.Radix.{index_with};
 ghost use Rattle.szg_count.specs.Views.{groups_in_slot_order, nibbles_in};
 ghost use Rattle.szg_file.specs.Index.{slot_in};
-ghost use Rattle.szg_values.specs.Men.{color_at, man_at};
-ghost use Rattle.szg_values.specs.Material.{IsMaterial, has_pawns, is_symmetric};
+ghost use Rattle.szg_values.specs.Material.{has_pawns, is_symmetric};
 ghost use Rattle.szg_values.specs.Placement.{PlacedMan};
 ghost use Rattle.szg_place.specs.Layout.{is_dtz};
-ghost use Rattle.szg_place.specs.Ranks.{EachInList};
-ghost use Rattle.szg_place.specs.Spots.{board_at, men_by_group, men_on_squares, placement_refusal, ranks_in_lists, ranks_of_index, squares_of_ranks};
+ghost use Rattle.szg_place.specs.Spots.{board_at, men_by_group, men_on_squares, placement_refusal, ranks_of_index, squares_of_ranks};
 ghost use Rattle.szg_place.specs.Tables.{numbering_in};
 
 use crate::group_ranks::unrank_group;
-use crate::stored_side::stored_side;
-use crate::typed::material_fits;
+use crate::stored_side::{side_in, stored_side};
 use crate::{PlaceFault, Spot};
 use arrayvec::ArrayVec;
 use szg_count::{Groups, MaterialInfo, Order};
@@ -79,7 +75,8 @@ fn men_at(
     requires inside { (placed_men : PlacedMan) → IsIn placed_men (men_by_group (counted material.now part given).groups (squares_of_ranks material.now part [] (zip (counted material.now part given).groups (ranks_of_index (counted material.now part given) index)))) → placed_men.2 < 64 }
     ensures { result.items ≡ men_by_group (counted material.now part given).groups (squares_of_ranks material.now part [] (zip (counted material.now part given).groups (ranks_of_index (counted material.now part given) index))) }
 {
-    material_fits(material);
+    // for proofs alone: a material is the men of a name
+    let _ = material.material();
     let squares = squares_at(material, part, groups, index);
     men_on_squares(order.men.as_slice(), squares.as_slice())
 }
@@ -93,19 +90,12 @@ fn men_on_squares(codes: &[u8], squares: &[u8]) -> ArrayVec<(Man, Color, Square)
 {
     let mut men = ArrayVec::new();
     for (i, code) in codes.iter().enumerate() {
-        men.push(man_on(*code, squares[i]));
+        let Some(square) = Square::new(squares[i]) else {
+            unreachable!()
+        };
+        men.push((Man::of_code(*code), Color::of_code(*code), square));
     }
     men
-}
-
-fn man_on(code: u8, square: u8) -> (Man, Color, Square)
-    requires { square < 64 }
-    ensures { result ≡ (man_at code, color_at code, square) }
-{
-    let Some(square) = Square::new(square) else {
-        unreachable!()
-    };
-    (Man::of_code(code), Color::of_code(code), square)
 }
 
 // Returns whether a DTZ subtable stores Black although both sides have the same men and there are pawns. No placement
@@ -124,20 +114,10 @@ fn has_no_placements(material: &MaterialInfo, kind: Kind, stored: u8) -> bool
 fn mover_at(material: &MaterialInfo, kind: Kind, stored: u8, side: u8) -> Color
     ensures { result ≡ (if is_symmetric material.now then Color.White else if (if is_dtz kind then stored else side) == 0 then Color.White else Color.Black) }
 {
-    if material.symmetric() || stored_mover(kind, stored, side) == 0 {
+    if material.symmetric() || side_in(kind, stored, side) == 0 {
         Color::White
     } else {
         Color::Black
-    }
-}
-
-// Returns the side to move in a subtable: in DTZ the side that it stores.
-fn stored_mover(kind: Kind, stored: u8, side: u8) -> u8
-    ensures { result ≡ (if is_dtz kind then stored else side) }
-{
-    match kind {
-        Kind::Wdl => side,
-        Kind::Dtz => stored,
     }
 }
 
@@ -157,7 +137,8 @@ pub fn squares_at(
     requires few { length (concat given.1) ≤ 6 }
     ensures { result.items ≡ concat given.1 }
 {
-    material_fits(material);
+    // for proofs alone: a material is the men of a name
+    let _ = material.material();
     let mut squares = ArrayVec::new();
     for i in 0..groups.count() {
         let group = groups.group(i);

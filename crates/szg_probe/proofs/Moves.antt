@@ -1,18 +1,15 @@
 -- Loops over the legal moves.
 use Rattle.std.proofs.Common.{◌≡◌, ℕ, ◌+◌, ◌<◌, ◌≤◌, List, [], ◌∷◌, ◌++◌, length, map, max, take, get_or, refl, sym, ap, ◌∙◌, subst, Bool, true, false, arith, inl, inr, Option, Some, None}
 use Rattle.std.specs.Prelude.{◌||◌, ◌&&◌, ◌==◌, not, filter, option_and_then, option_map}
-use Rattle.std.specs.List.{list_any, list_all}
-use Rattle.std.proofs.lemmas.Bool.{cases_Bool, or_parts, or_from, ne_eqb}
+use Rattle.std.specs.List.{list_any, list_all, All, Contains}
+use Rattle.std.proofs.lemmas.Bool.{cases_Bool, ne_eqb}
 use Rattle.std.proofs.lemmas.List.{take_more, take_all}
-use Rattle.szg_values.specs.Men.{is_man, is_color}
-use Rattle.szg_values.specs.Placement.{PlacedMan}
-use Rattle.szg_values.specs.declared.Color.{Color}
-use Rattle.szg_values.specs.declared.Man.TheVariants.{Pawn}
+use Rattle.std.proofs.lemmas.List.Elements.{All-contains_itself, All-filter, filter_passes}
 use Rattle.szg_game.specs.Certified.{is_won}
 use Rattle.szg_game.specs.declared.Class.{Class}
 use Rattle.szg_game.proofs.Lists.{IsIn, in_contains, any_in, in_map}
 use Rattle.szg_chess.specs.declared.Move.{Move}
-use Rattle.szg_chess.specs.Position.{Position, is_on}
+use Rattle.szg_chess.specs.Position.{Position}
 use Rattle.szg_chess.specs.Moves.{after, has_no_move, is_capture, is_zeroing, legal_moves}
 use Rattle.szg_probe.specs.Probing.{StoredClasses, all_known, has_only_captures, probed}
 use Rattle.szg_probe.specs.Distances.{StoredNumbers, is_known_true, any_known, keeps_by_zeroing, has_zeroing, is_drawn, stored_distance, distance_of, probed_distance, choose_some, least, greatest, chosen, offset_of, stays, distance_by, quiet_distance, move_distance, ranked, MayLack}
@@ -93,28 +90,21 @@ any_passed f c ms passed = let any = any_same ms in let all = all_same ms in rw 
         by_first None h = refl
         by_first (Some b) h = known_skips (λ js. b ∷ js) false (all_known (map f (filter c xs))) ∙ h ∙ sym (known_skips (λ js. b ∷ js) false (all_known (map f xs)))
 
-no_pawn_on : (color : Color) (men : List PlacedMan) (square : ℕ) → list_any (λ s. is_man Pawn s.0 && is_color color s.1) men ≡ false → is_on Pawn color men square ≡ false
-no_pawn_on color [] square h = refl
-no_pawn_on color (s ∷ men) square h =
-    let parts = or_parts (is_man Pawn s.0 && is_color color s.1) (list_any (λ t. is_man Pawn t.0 && is_color color t.1) men) h in
-    or_from (is_man Pawn s.0 && is_color color s.1 && s.2 == square) (is_on Pawn color men square) (neither (is_man Pawn s.0) (is_color color s.1) (s.2 == square) parts.0) (no_pawn_on color men square parts.1)
-  where
-    neither : (a b c : Bool) → (a && b) ≡ false → (a && b && c) ≡ false
-    neither false b c h = refl
-    neither true false c h = refl
-    neither true true c h = cc
-
--- without a pawn a move that is no capture keeps no class by zeroing
-quiet_keeps_none : (classes : StoredClasses) (p : Position) (k : Class) (m : Move) → list_any (λ s. is_man Pawn s.0 && is_color p.mover s.1) p.placed_men ≡ false → is_capture p m ≡ false → keeps_by_zeroing classes p k m ≡ Some false
+-- a move that is not zeroing keeps no class by zeroing
+quiet_keeps_none : (classes : StoredClasses) (p : Position) (k : Class) (m : Move) → is_zeroing p m ≡ false → keeps_by_zeroing classes p k m ≡ Some false
 unfolding keeps_by_zeroing
-quiet_keeps_none classes p k m none quiet = let off = no_pawn_on p.mover p.placed_men m.from none in rw (off, quiet) refl
+quiet_keeps_none classes p k m quiet = rw quiet refl
 
--- without a pawn captures alone are zeroing
-pub zeroing_by_captures : (classes : StoredClasses) (p : Position) (k : Class) (b : Bool) (captures : List Move) → list_any (λ s. is_man Pawn s.0 && is_color p.mover s.1) p.placed_men ≡ false → captures ≡ filter (is_capture p) (legal_moves p) →
-    any_known (map (keeps_by_zeroing classes p k) captures) ≡ Some b → has_zeroing classes p k ≡ Some b
-zeroing_by_captures classes p k b captures none same h =
-    sym (any_passed (keeps_by_zeroing classes p k) (is_capture p) (legal_moves p) (λ m quiet. quiet_keeps_none classes p k m none quiet))
-    ∙ sym (ap (λ (ms : List Move). any_known (map (keeps_by_zeroing classes p k) ms)) same) ∙ h
+-- zeroing moves alone count
+pub by_zeroing : (classes : StoredClasses) (p : Position) (k : Class) → any_known (map (keeps_by_zeroing classes p k) (filter (is_zeroing p) (legal_moves p))) ≡ has_zeroing classes p k
+by_zeroing classes p k = any_passed (keeps_by_zeroing classes p k) (is_zeroing p) (legal_moves p) (λ m quiet. quiet_keeps_none classes p k m quiet)
+
+-- one of the zeroing moves
+pub zeroing_at : (p : Position) (items : List Move) (i : ℕ) (m : Move) → items ≡ filter (is_zeroing p) (legal_moves p) → i < length items → m ≡ get_or items i m → Contains (legal_moves p) m × (is_zeroing p m ≡ true)
+zeroing_at p items i m same h is =
+    let legal = All-filter (is_zeroing p) (Contains (legal_moves p)) (legal_moves p) (All-contains_itself (legal_moves p)) in
+    let all = subst (λ (ms : List Move). All (λ n. Contains (legal_moves p) n × (is_zeroing p n ≡ true)) ms) (sym same) (λ k d l. (legal k d l, filter_passes (is_zeroing p) (legal_moves p) k d l)) in
+    subst (λ (n : Move). Contains (legal_moves p) n × (is_zeroing p n ≡ true)) (sym is) (all i m h)
 
 -- all pass a test if none fails it
 pub none_fails : {A : Type 0} (test : A → Bool) (xs : List A) → not (list_any (λ x. not (test x)) xs) ≡ list_all test xs

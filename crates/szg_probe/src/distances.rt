@@ -1,21 +1,17 @@
 //! Distances: how many plies there are to the next zeroing move or to mate.
 
-ghost use Rattle.std.specs.Prelude.{◌≡◌, ◌<◌, ◌≤◌, ◌+◌, ◌^◌, ◌&&◌, ◌||◌, [], not, map, All, IfOk, IfErr, IfNone, None, Some, Contains};
-ghost use Rattle.std.specs.List.{list_any};
+ghost use Rattle.std.specs.Prelude.{◌≡◌, ◌<◌, ◌≤◌, ◌+◌, ◌^◌, ◌||◌, [], true, not, IfOk, IfErr, IfNone, None, Some, Contains};
 ghost use Rattle.std.specs.Option.{ForSome};
-ghost use Rattle.szg_values.specs.Men.{is_man, is_color};
-ghost use Rattle.szg_values.specs.declared.Man.TheVariants.{Pawn};
 ghost use Rattle.szg_game.specs.Classes.{negate};
-ghost use Rattle.szg_chess.specs.Moves.{after, has_no_move, legal_moves};
+ghost use Rattle.szg_chess.specs.Moves.{after, has_no_move, is_zeroing, legal_moves};
 ghost use Rattle.szg_probe.specs.Chess.{ChessClass};
 ghost use Rattle.szg_probe.specs.Probing.{AreTrue, MayFail, has_only_captures, probed};
-ghost use Rattle.szg_probe.specs.Distances.{MayFailByZeroing, MayFailBySearch, MayLack, any_known, at_counter, choose_some, chosen, class_at, differs_without_right, distance_by, distance_of, has_zeroing, is_drawn, is_next, keeps_by_zeroing, offset_of, probed_distance, quiet_distance, searched_distance, signed_distance, stays, stored_distance};
+ghost use Rattle.szg_probe.specs.Distances.{MayFailByZeroing, MayFailBySearch, MayLack, at_counter, choose_some, chosen, class_at, differs_without_right, distance_by, distance_of, has_zeroing, is_drawn, is_next, keeps_by_zeroing, offset_of, probed_distance, quiet_distance, searched_distance, signed_distance, stays, stored_distance};
 
 use crate::probes::{probe_wdl, search};
 use crate::{DistanceTables, Tables};
 use szg_chess::{Move, Position};
 use szg_game::Class;
-use szg_values::Man;
 
 /// The class of a position, and its distance in plies: to the next zeroing move or to mate, 100 more for a cursed win or
 /// a blessed loss, and 0 for a draw.
@@ -141,7 +137,7 @@ pub(crate) fn is_drawn(class: Class) -> bool
     !(class.is_won() || class.is_lost())
 }
 
-/// Returns whether a legal move is zeroing and leads to a position of the negated class.
+/// Returns whether a legal move that is zeroing leads to a position of the negated class.
 #[tactic(auto, unfolding(crate::specs::Distances::keeps_by_zeroing))]
 fn keeps_by_zeroing<T: Tables>(
     tables: &mut T,
@@ -149,55 +145,21 @@ fn keeps_by_zeroing<T: Tables>(
     class: Class,
     m: Move,
 ) -> Result<bool, T::Fault>
-    requires { Contains (legal_moves position.now) m }
+    requires legal { Contains (legal_moves position.now) m }
+    requires zeroing { is_zeroing position.now m ≡ true }
     ensures same { tables.new ≡ tables.old }
     ensures keeps { IfOk result (λ b. keeps_by_zeroing (T.stored tables.old) position.now class m ≡ Some b) }
     ensures fault { IfErr result (λ fault. MayFailByZeroing (T.explains (T.stored tables.old) (T.numbers tables.old) fault) position.now) }
 {
     // A fact that the proof uses: the men are those of a position.
     let _ = position.men();
-    if !position.is_zeroing(&m) {
-        return Ok(false);
-    }
     match search(tables, &position.after(m)) {
         Ok(found) => Ok(found.level() == class.negate().level()),
         Err(fault) => Err(fault),
     }
 }
 
-/// Returns whether some of these legal moves is zeroing and keeps the class.
-fn some_keeps<T: Tables>(
-    tables: &mut T,
-    position: &Position,
-    moves: &[Move],
-    class: Class,
-) -> Result<bool, T::Fault>
-    requires { All (Contains (legal_moves position.now)) moves.now }
-    ensures same { tables.new ≡ tables.old }
-    ensures keeps { IfOk result (λ b. any_known (map (keeps_by_zeroing (T.stored tables.old) position.now class) moves.now) ≡ Some b) }
-    ensures fault { IfErr result (λ fault. MayFailByZeroing (T.explains (T.stored tables.old) (T.numbers tables.old) fault) position.now) }
-{
-    for m in moves {
-        match keeps_by_zeroing(tables, position, class, *m) {
-            Ok(true) => return Ok(true),
-            Ok(false) => {}
-            Err(fault) => return Err(fault),
-        }
-    }
-    Ok(false)
-}
-
-/// Returns whether the side to move has a pawn.
-fn has_pawn(position: &Position) -> bool
-    ensures { result ≡ list_any (λ s. is_man Pawn s.0 && is_color position.now.mover s.1) position.now.placed_men }
-{
-    position
-        .men()
-        .iter()
-        .any(|man| man.0 == Man::Pawn && man.1 == position.mover())
-}
-
-/// Returns whether some zeroing move keeps the class. Without a pawn captures alone are zeroing.
+/// Returns whether some zeroing move keeps the class.
 fn has_zeroing<T: Tables>(
     tables: &mut T,
     position: &Position,
@@ -207,11 +169,15 @@ fn has_zeroing<T: Tables>(
     ensures zeroing { IfOk result (λ b. has_zeroing (T.stored tables.old) position.now class ≡ Some b) }
     ensures fault { IfErr result (λ fault. MayFailByZeroing (T.explains (T.stored tables.old) (T.numbers tables.old) fault) position.now) }
 {
-    if has_pawn(position) {
-        some_keeps(tables, position, position.legal_moves().as_slice(), class)
-    } else {
-        some_keeps(tables, position, position.captures().as_slice(), class)
+    let moves = position.zeroing_moves();
+    for m in moves.as_slice() {
+        match keeps_by_zeroing(tables, position, class, *m) {
+            Ok(true) => return Ok(true),
+            Ok(false) => {}
+            Err(fault) => return Err(fault),
+        }
     }
+    Ok(false)
 }
 
 /// Returns whether a position has its class only by the right to capture en passant.

@@ -20,7 +20,7 @@ use std::mem::replace;
 use szg_chess::{FenRecord, Position, PositionFault};
 use szg_file::Reason;
 use szg_files::{FileFault, FileSystem};
-use szg_named::{fault_text, reason_word};
+use szg_named::fault_text;
 use szg_probe::{Distance, DistanceFault, RankedMove, probe_dtz};
 use szg_tables::{FetchedSet, FetchedTable, FetchedValue, Missing, MissingReason};
 use szg_values::{Kind, Material};
@@ -131,47 +131,22 @@ impl<'a> Folders<'a> {
         ensures content { S.content system.new ≡ S.content system.old }
         ensures fetched { AreFetched (S.content system.old) (words_of self.old) self.old.tables.items → AreFetched (S.content system.old) (words_of self.new) self.new.tables.items }
     {
+        let mut has_distances = true;
         'pieces: for _ in 0..MOST_PIECES {
-            let missing = match answer_over(alloc, &mut self.tables, fen, true) {
-                Ok(answer) => return Ok(answer),
-                Err(DistanceFault::Contradiction) => return Err(ResultStop::Contradiction),
-                Err(DistanceFault::Tables(missing)) => missing,
-            };
-            let Some(piece) = self.read_or_lack(alloc, system, &fen.position, &missing)? else {
-                return match self.answer_by_classes(alloc, system, fen) {
-                    Ok(answer) => Ok(answer),
-                    Err(stop) => Err(stop),
-                };
-            };
-            self.keep(piece)?;
-            self.read_ahead(alloc, system, &fen.position, true);
-        }
-        Err(ResultStop::Contradiction)
-    }
-
-    /// Probes a position by the classes alone, as `answer`.
-    fn answer_by_classes<S: FileSystem>(
-        &mut self,
-        alloc: Global,
-        system: &mut S,
-        fen: &FenRecord,
-    ) -> Result<Answer, ResultStop>
-        ensures answer { IfOk result (λ a. IsAnswerOf (fetched_classes self.new.tables.items) (fetched_numbers self.new.tables.items) fen.now a) }
-        ensures words { words_of self.new ≡ words_of self.old }
-        ensures content { S.content system.new ≡ S.content system.old }
-        ensures fetched { AreFetched (S.content system.old) (words_of self.old) self.old.tables.items → AreFetched (S.content system.old) (words_of self.new) self.new.tables.items }
-    {
-        'pieces: for _ in 0..MOST_PIECES {
-            let missing = match answer_over(alloc, &mut self.tables, fen, false) {
+            let missing = match answer_over(alloc, &mut self.tables, fen, has_distances) {
                 Ok(answer) => return Ok(answer),
                 Err(DistanceFault::Contradiction) => return Err(ResultStop::Contradiction),
                 Err(DistanceFault::Tables(missing)) => missing,
             };
             let Some(piece) = self.read_piece(alloc, system, &missing)? else {
-                return Err(ResultStop::Missing(missing));
+                if !has_distances || !may_do_without(&missing, &fen.position) {
+                    return Err(ResultStop::Missing(missing));
+                }
+                has_distances = false;
+                continue;
             };
             self.keep(piece)?;
-            self.read_ahead(alloc, system, &fen.position, false);
+            self.read_ahead(alloc, system, &fen.position, has_distances);
         }
         Err(ResultStop::Contradiction)
     }
@@ -195,14 +170,8 @@ impl<'a> Folders<'a> {
             Err(fault) => return Err(ResultStop::Fen(fault)),
         };
         self.forget();
-        let answer = match self.answer(alloc, system, &record) {
-            Ok(answer) => answer,
-            Err(stop) => return Err(stop),
-        };
-        match text_of(alloc, &record.position, &answer) {
-            Ok(text) => Ok(text),
-            Err(_) => Err(ResultStop::Memory),
-        }
+        let answer = self.answer(alloc, system, &record)?;
+        Ok(text_of(alloc, &record.position, &answer)?)
     }
 
     /// Returns the result of a position's text, as one line.
@@ -224,14 +193,8 @@ impl<'a> Folders<'a> {
             Err(fault) => return Err(ResultStop::Fen(fault)),
         };
         self.forget();
-        let answer = match self.answer(alloc, system, &record) {
-            Ok(answer) => answer,
-            Err(stop) => return Err(stop),
-        };
-        match line_of(alloc, fen, &answer) {
-            Ok(line) => Ok(line),
-            Err(_) => Err(ResultStop::Memory),
-        }
+        let answer = self.answer(alloc, system, &record)?;
+        Ok(line_of(alloc, fen, &answer)?)
     }
 
     /// Returns the result of a position's text, as a JSON object on one line.
@@ -254,10 +217,7 @@ impl<'a> Folders<'a> {
         };
         self.forget();
         'pieces: for _ in 0..MOST_PIECES {
-            let answer = match self.answer(alloc, system, &record) {
-                Ok(answer) => answer,
-                Err(stop) => return Err(stop),
-            };
+            let answer = self.answer(alloc, system, &record)?;
             let position = &record.position;
             match self.moves_after(alloc, system, position, answer.moves.as_slice())? {
                 OrPiece::Found(moves) => {
@@ -301,6 +261,7 @@ impl<'a> Folders<'a> {
     }
 
     /// Returns the DTZ of a position with its sign. None if it takes a DTZ table that is in none of the folders.
+    #[tactic(auto, using(crate::proofs::Absent::lacking))]
     fn dtz<S: FileSystem>(
         &mut self,
         alloc: Global,
@@ -318,29 +279,10 @@ impl<'a> Folders<'a> {
             Err(DistanceFault::Contradiction) => return Err(ResultStop::Contradiction),
             Err(DistanceFault::Tables(missing)) => missing,
         };
-        match self.read_or_lack(alloc, system, position, &missing)? {
+        match self.read_piece(alloc, system, &missing)? {
             Some(piece) => Ok(OrPiece::Read(piece)),
-            None => Ok(OrPiece::Found(None)),
-        }
-    }
-
-    /// Reads a piece that is missing, as `read_piece`. None only if an answer without distances does without it.
-    #[tactic(auto, using(crate::proofs::Absent::lacking))]
-    fn read_or_lack<S: FileSystem>(
-        &self,
-        alloc: Global,
-        system: &mut S,
-        position: &Position,
-        missing: &Missing,
-    ) -> Result<Option<Piece>, ResultStop>
-        ensures content { S.content system.new ≡ S.content system.old }
-        ensures read { IfOk result (λ piece. IfSome piece (IsPieceOf (S.content system.old) (words_of self.now) self.now.tables.items)) }
-        ensures lacks { IfOk result (λ piece. IfNone piece (LacksDistances (S.content system.old) (words_of self.now) position.now)) }
-    {
-        match self.read_piece(alloc, system, missing)? {
-            Some(piece) => Ok(Some(piece)),
-            None if may_do_without(missing, position) => Ok(None),
-            None => Err(ResultStop::Missing(copy_of(missing))),
+            None if may_do_without(&missing, position) => Ok(OrPiece::Found(None)),
+            None => Err(ResultStop::Missing(missing)),
         }
     }
 
@@ -472,18 +414,10 @@ fn add_value(table: &mut FetchedTable, value: FetchedValue) -> Result<(), AllocE
 
 /// Returns the number of the table that lacks something.
 fn number_of(tables: &[FetchedTable], missing: &Missing) -> Option<usize> {
-    'tables: for (number, table) in tables.iter().enumerate() {
-        if is_lacking(table, missing) {
-            return Some(number);
-        }
-    }
-    None
-}
-
-/// Returns whether a table is the one that lacks something.
-fn is_lacking(table: &FetchedTable, missing: &Missing) -> bool {
-    let index = table.front.index();
-    index.kind() == missing.kind && missing.material.is_same(index.material())
+    tables.iter().position(|table| {
+        let index = table.front.index();
+        index.kind() == missing.kind && missing.material.is_same(index.material())
+    })
 }
 
 /// Returns whether an answer without distances does without a table: a DTZ table, of as many men as the position or fewer.
@@ -528,8 +462,7 @@ pub fn stop_text(alloc: Global, stop: &ResultStop) -> Result<String, AllocError>
             let name = material.name();
             let name = name.as_str();
             let kind = kind_word(*kind);
-            let word = reason_word(*reason);
-            format!(in alloc; "refused table {name} {kind} at {place}: {word}")
+            format!(in alloc; "refused table {name} {kind} at {place}: {reason}")
         }
         ResultStop::Failed(fault) => fault_text(alloc, fault),
         ResultStop::Memory => String::from_str(alloc, "out of memory"),

@@ -2,7 +2,7 @@
 
 ghost use Rattle.std.specs.Prelude.{◌≡◌, ◌++◌, IfOk, OnOk, All, Contains, Some, string_bytes};
 ghost use Rattle.szg_chess.specs.Moves.{legal_moves};
-ghost use Rattle.szg_results.specs.Lines.{answer_line, answer_text, class_word, flag, head_lines, move_line, plies_text};
+ghost use Rattle.szg_results.specs.Lines.{answer_line, answer_text, class_word, flag, move_line, plies_text};
 
 use crate::Answer;
 use std::alloc::{AllocError, Global};
@@ -58,19 +58,16 @@ pub fn text_of(alloc: Global, position: &Position, answer: &Answer) -> Result<St
     ensures { IfOk result (λ text. string_bytes text ≡ answer_text position.now answer.now) }
 {
     let is_known = answer.has_distances;
-    let mut text = head_lines(alloc, is_known, answer.distance)?;
+    let word = class_word(answer.distance.class);
+    let dtz = Plies {
+        is_known,
+        distance: answer.distance,
+    };
+    let mut text = format!(in alloc; "result {word}\ndtz {dtz}\n")?;
     'moves: for r in answer.moves.as_slice() {
         add_move(&mut text, position, is_known, r)?;
     }
     Ok(text)
-}
-
-fn head_lines(alloc: Global, is_known: bool, distance: Distance) -> Result<String, AllocError>
-    ensures { IfOk result (λ text. string_bytes text ≡ head_lines is_known distance) }
-{
-    let word = class_word(distance.class);
-    let dtz = Plies { is_known, distance };
-    format!(in alloc; "result {word}\ndtz {dtz}\n")
 }
 
 /// Adds the line of a legal move.

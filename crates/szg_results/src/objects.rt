@@ -195,13 +195,7 @@ fn are_kings_or_bishops_on(color: u8, men: &[(Man, Color, Square)]) -> bool
 fn has_knight(men: &[(Man, Color, Square)]) -> bool
     ensures { result ≡ list_any (λ s. is_man Man.Knight s.0) men.now }
 {
-    men.iter().any(|man| is_knight(man))
-}
-
-fn is_knight(man: &(Man, Color, Square)) -> bool
-    ensures { result ≡ is_man Man.Knight man.now.0 }
-{
-    matches!(man.0, Man::Knight)
+    men.iter().any(|man| Man::Knight == man.0)
 }
 
 /// Returns whether a man is a king, or a bishop on a square of a color: 0 is that of a1.

@@ -113,7 +113,7 @@ fn open_at<S: FileSystem>(
     };
     match system.open(path.as_str()) {
         Ok(file) => Ok(Some(TableFile { path, file })),
-        Err(fault) if is_absent(&fault) => Ok(None),
+        Err(FileFault::System(error)) if error.kind() == ErrorKind::NotFound => Ok(None),
         Err(fault) => Err(ResultStop::Failed(fault)),
     }
 }
@@ -237,14 +237,6 @@ fn stop_of(missing: &Missing, fault: ReadFault, file: &impl Reasons) -> ResultSt
         }
         ReadFault::Device => ResultStop::Failed(FileFault::of(file.reason())),
         ReadFault::Memory => ResultStop::Memory,
-    }
-}
-
-/// Returns whether there is no such file.
-fn is_absent(fault: &FileFault) -> bool {
-    match fault {
-        FileFault::System(error) => error.kind() == ErrorKind::NotFound,
-        _ => false,
     }
 }
 

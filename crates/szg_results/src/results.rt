@@ -35,18 +35,14 @@ pub fn probe_position<T: DistanceTables>(
     ensures stated { IfOk result (λ a. IsAnswer (T.stored tables.old) (T.numbers tables.old) position.now counter a) }
     ensures has_distances { IfOk result (λ a. a.has_distances ≡ has_distances) }
 {
-    let distance = match probe_dtz(tables, position) {
-        Ok(distance) => distance,
-        Err(fault) => return Err(fault),
-    };
-    match rank_moves(tables, position, counter) {
-        Ok(moves) => Ok(Answer {
-            distance: counted(position, counter, distance),
-            moves,
-            has_distances,
-        }),
-        Err(fault) => Err(fault),
-    }
+    let distance = probe_dtz(tables, position)?;
+    let mut moves = ArrayVec::new();
+    rank_moves(tables, position, counter, &mut moves)?;
+    Ok(Answer {
+        distance: counted(position, counter, distance),
+        moves,
+        has_distances,
+    })
 }
 
 /// Returns a distance with the fifty-move counter, unless the position is mate.

@@ -56,14 +56,9 @@ impl Noting {
     }
 }
 
-/// Returns whether a value that was not fetched is noted.
+/// Returns whether the value at a spot of the table that lacks it is noted.
 fn is_among(wanted: &[Missing], missing: &Missing, spot: Spot) -> bool {
-    wanted.iter().any(|noted| is_same(noted, missing, spot))
-}
-
-/// Returns whether what is noted is the value at a spot of the table that lacks it.
-fn is_same(noted: &Missing, missing: &Missing, spot: Spot) -> bool {
-    match noted.reason {
+    wanted.iter().any(|noted| match noted.reason {
         MissingReason::Unread(other) => {
             other.index == spot.index
                 && other.part == spot.part
@@ -72,7 +67,7 @@ fn is_same(noted: &Missing, missing: &Missing, spot: Spot) -> bool {
                 && noted.material.is_same(&missing.material)
         }
         _ => false,
-    }
+    })
 }
 
 impl Tables for Noting {

@@ -168,15 +168,10 @@ fn add_pairs<V: Watcher>(
 }
 
 /// Drops each pair alone, from the last to the first, spells the leaves again, and keeps the result in `best` if it
-/// costs less: in at most `PASSES` passes, until a pass keeps nothing. Sets the budget of visited nodes to `budget`,
-/// which the last spelling may exceed.
-fn trim<V: Watcher>(
-    alloc: Global,
-    budget: u64,
-    best: &mut Best,
-    watcher: &mut V,
-) -> Result<(), AllocError> {
-    best.budget = budget;
+/// costs less: in at most `PASSES` passes, until a pass keeps nothing. Sets the budget of visited nodes to
+/// `TRIM_BUDGET`, which the last spelling may exceed.
+fn trim<V: Watcher>(alloc: Global, best: &mut Best, watcher: &mut V) -> Result<(), AllocError> {
+    best.budget = TRIM_BUDGET;
     for pass in 0..PASSES {
         let quarters = pass % 2 * 2;
         let count = best.paired.entries.len();
@@ -225,7 +220,7 @@ pub(crate) fn shrink<V: Watcher>(
     if is_short {
         add_pairs(alloc, &mut best, watcher)?;
         if best.paired.entries.len() <= FEW_SYMBOLS {
-            trim(alloc, TRIM_BUDGET, &mut best, watcher)?;
+            trim(alloc, &mut best, watcher)?;
         }
     }
     // spell the leaves again with the code of the best text, until that costs more or is given up
@@ -241,6 +236,5 @@ pub(crate) fn shrink<V: Watcher>(
         best.paired = tried;
         best.cost = cost;
     }
-    let Best { paired, .. } = best;
-    Ok(paired)
+    Ok(best.paired)
 }

@@ -27,9 +27,13 @@ abbrev pub with_parts : List (List ℕ) → List (List ℕ) → List (List ℕ)
 with_parts parts [] = parts
 with_parts parts (part ∷ more) = with_parts (with_part parts part) more
 
+-- the parts of a path that are left without detours
+abbrev pub parts_of : List ℕ → List (List ℕ)
+parts_of path = with_parts [] (slice_split (λ byte. byte == 47) path)
+
 -- a path without detours: the parts that are left, each after a slash
 abbrev pub normal : List ℕ → List ℕ
-normal path = flat_map (λ part. 47 ∷ part) (with_parts [] (slice_split (λ byte. byte == 47) path))
+normal path = flat_map (λ part. 47 ∷ part) (parts_of path)
 
 -- the name is the path, or its end after a slash
 abbrev pub is_for : List ℕ → Name → Bool

@@ -7,7 +7,7 @@ mod paths;
 mod sum;
 
 pub use hasher::{Hasher, sha256_of};
-pub use lists::{Sums, SumsFault};
+pub use lists::{FromLines, Sums};
 pub use md5::Md5;
 pub use paths::normal;
 pub use sha1::Sha1;

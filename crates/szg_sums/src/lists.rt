@@ -1,11 +1,11 @@
 //! Lists of sums, as `md5sum`, `sha1sum`, `sha256sum` and `sha512sum` write them.
 
 ghost use Rattle.std.specs.Prelude.{◌≡◌, IfOk, None, map, option_map};
-ghost use Rattle.szg_sums.specs.Names.{best, better, is_longer, name_of};
+ghost use Rattle.szg_sums.specs.Names.{best, better, name_of};
 
 use crate::paths::normal;
 use crate::sum::Sum;
-use std::alloc::{AllocError, AllocFailed, Global};
+use std::alloc::{AllocError, Global};
 
 /// A name in a list, with its digest.
 #[derive(Drop)]
@@ -23,25 +23,10 @@ pub struct Sums {
     listed: Vec<Listed>,
 }
 
-/// Why a list of sums isn't one.
-#[derive(Clone, Copy)]
-pub enum SumsFault {
-    /// The line of this number, from 1 on, isn't a digest and a name.
-    Line(u64),
-    /// An allocation was refused.
-    Memory,
-}
-
-impl From<AllocError> for SumsFault {
-    fn from(_failed: AllocError) -> SumsFault {
-        SumsFault::Memory
-    }
-}
-
-impl<T: Drop> From<AllocFailed<T>> for SumsFault {
-    fn from(_failed: AllocFailed<T>) -> SumsFault {
-        SumsFault::Memory
-    }
+/// What is read from lines.
+pub trait FromLines {
+    /// Adds the lines of a text; returns the number, from 1 on, of the first one that is none of its lines, if there is one.
+    fn add_lines(&mut self, alloc: Global, text: &[u8]) -> Result<Option<u64>, AllocError>;
 }
 
 impl Sums {
@@ -55,27 +40,6 @@ impl Sums {
         Sums {
             listed: Vec::new(alloc),
         }
-    }
-
-    /// Adds the lines of a list: each is a digest in hexadecimal digits, two spaces or a space and `*`, and a name; or an
-    /// algorithm, a name in parentheses, `=` and the digest. If a line begins with a backslash, its name has escapes. Empty
-    /// lines and those that begin with `#` are passed over.
-    ///
-    /// Errors: the first line that isn't one; an allocation was refused.
-    pub fn add(&mut self, alloc: Global, text: &[u8]) -> Result<(), SumsFault> {
-        let mut number = 0u64;
-        'lines: for line in text.split(|byte| *byte == b'\n') {
-            number = number.saturating_add(1);
-            let line = line.strip_suffix(b"\r".as_slice()).unwrap_or(line);
-            if line.is_empty() || line.starts_with(b"#".as_slice()) {
-                continue;
-            }
-            match listed_in(alloc, line)? {
-                Some(listed) => self.listed.push(listed)?,
-                None => return Err(SumsFault::Line(number)),
-            }
-        }
-        Ok(())
     }
 
     /// Returns the digest for a path: that of the longest name that is the path, or its end after a slash, and of several
@@ -102,13 +66,24 @@ impl Sums {
     }
 }
 
-/// Whether a name that was found is longer than another one.
-fn is_longer(found: Option<&Listed>, one: &Listed) -> bool
-    ensures { result ≡ is_longer (option_map (λ other. name_of other.now) found.entry) (name_of one.now) }
-{
-    match found {
-        Some(other) => other.path.len() > one.path.len(),
-        None => false,
+impl FromLines for Sums {
+    /// Adds the lines of a list: each is a digest in hexadecimal digits, two spaces or a space and `*`, and a name; or an
+    /// algorithm, a name in parentheses, `=` and the digest. If a line begins with a backslash, its name has escapes. Empty
+    /// lines and those that begin with `#` are passed over.
+    fn add_lines(&mut self, alloc: Global, text: &[u8]) -> Result<Option<u64>, AllocError> {
+        let mut number = 0u64;
+        'lines: for line in text.split(|byte| *byte == b'\n') {
+            number = number.saturating_add(1);
+            let line = line.strip_suffix(b"\r".as_slice()).unwrap_or(line);
+            if line.is_empty() || line.starts_with(b"#".as_slice()) {
+                continue;
+            }
+            match listed_in(alloc, line)? {
+                Some(listed) => self.listed.push(listed)?,
+                None => return Ok(Some(number)),
+            }
+        }
+        Ok(None)
     }
 }
 
@@ -119,10 +94,14 @@ fn better<'a>(path: &[u8], found: Option<&'a Listed>, next: &'a Listed) -> Optio
     if !path.ends_with(&next.path) {
         return found;
     }
-    if is_longer(found, next) {
-        return found;
+    let Some(other) = found else {
+        return Some(next);
+    };
+    if other.path.len() > next.path.len() {
+        found
+    } else {
+        Some(next)
     }
-    Some(next)
 }
 
 /// Returns the longest name for a normal path, and of several the last.
@@ -180,27 +159,18 @@ fn plain_parts(line: &[u8]) -> Option<(&[u8], &[u8])> {
 
 /// Returns the digits and the name of a line that begins with the algorithm.
 fn tagged_parts(line: &[u8]) -> Option<(&[u8], &[u8])> {
-    let rest = after_tag(line)?;
+    let tags = [
+        b"MD5 (".as_slice(),
+        b"SHA1 (".as_slice(),
+        b"SHA256 (".as_slice(),
+        b"SHA512 (".as_slice(),
+    ];
+    let rest = tags.iter().find_map(|tag| line.strip_prefix(*tag))?;
     let length = rest.len().checked_sub(4)?;
     'ends: for less in 0..length {
         let (name, end) = rest.split_at(length - less);
         if let Some(digits) = end.strip_prefix(b") = ".as_slice()) {
             return Some((digits, name));
-        }
-    }
-    None
-}
-
-/// Returns what follows an algorithm's name and a parenthesis.
-fn after_tag(line: &[u8]) -> Option<&[u8]> {
-    'tags: for tag in [
-        b"MD5 (".as_slice(),
-        b"SHA1 (".as_slice(),
-        b"SHA256 (".as_slice(),
-        b"SHA512 (".as_slice(),
-    ] {
-        if let Some(rest) = line.strip_prefix(tag) {
-            return Some(rest);
         }
     }
     None

@@ -1,7 +1,6 @@
 //! Paths without detours.
 ghost use Rattle.std.specs.Prelude.{◌≡◌, IfOk, OnOk, map};
-ghost use Rattle.szg_sums.specs.Names.{normal, with_part, with_parts};
-ghost use Rattle.szg_sums.specs.Parts.{parts_of};
+ghost use Rattle.szg_sums.specs.Names.{normal, parts_of, with_part};
 
 use std::alloc::{AllocError, Global};
 

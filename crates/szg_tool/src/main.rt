@@ -3,9 +3,7 @@
 
 use std::io::{self, IsTerminal};
 use std::process::ExitCode;
-use szg_commands::{
-    ProgressLine, ReadLine, no_words_status, print_assumed_class, run_given, words_given,
-};
+use szg_commands::{ProgressLine, ReadLine, no_words_status, run_given, words_given};
 
 /// Runs the words of the command line on the system's files and the standard streams.
 ///
@@ -15,21 +13,16 @@ fn main(rt: HostRuntime) -> ExitCode {
     match words_given(&rt) {
         Ok(words) => {
             let is_terminal = rt.stderr().is_terminal();
-            let mut line = ProgressLine::new(&rt, &rt, is_terminal);
-            let status = run_given(
+            run_given(
                 &rt,
                 &rt,
                 &words,
                 rt.stdout().is_terminal(),
                 rt.reader(),
                 io::writer(&rt),
-                &mut line,
+                &mut ProgressLine::new(&rt, &rt, is_terminal),
                 &ReadLine::new(&rt, &rt, is_terminal),
-            );
-            if status == ExitCode::SUCCESS {
-                print_assumed_class(&rt, &words);
-            }
-            status
+            )
         }
         Err(error) => no_words_status(&rt, &error),
     }

@@ -6,7 +6,6 @@ ghost use Rattle.arrayvec.specs.ArrayVec.{array_vec_len};
 ghost use Rattle.arrayvec.specs.ArrayString.{array_string_len};
 ghost use Rattle.szg_values.specs.Material.{name_of, man_codes, IsMaterial, is_symmetric, has_pawns, lead_pawns, other_pawns, has_single_lead, pawn_count, is_king_code, count_of, is_same_men, may_be_first, is_not_later, is_in_order};
 
-use crate::men::count_kind;
 use crate::{Man, Material};
 use arrayvec::{ArrayString, ArrayVec};
 
@@ -53,8 +52,8 @@ impl Material {
         ensures { result ≡ self.now }
     {
         Material {
-            first: copy_men(&self.first),
-            second: copy_men(&self.second),
+            first: copied(self.first.as_slice()),
+            second: copied(self.second.as_slice()),
         }
     }
 
@@ -79,7 +78,7 @@ impl Material {
     pub fn has_pawns(&self) -> bool
         ensures { result ≡ has_pawns self.now }
     {
-        0 < self.first_pawns() + self.second_pawns()
+        0 < pawn_count(self.first.as_slice()) + pawn_count(self.second.as_slice())
     }
 
     /// Returns the number of pawns of the lead colour: that of the side with fewer pawns, but at least one, or of
@@ -105,33 +104,28 @@ impl Material {
         codes.iter().any(|code| is_single(*code, codes.as_slice()))
     }
 
-    fn first_pawns(&self) -> u8
-        ensures value { result ≡ pawn_count self.now.first }
-        ensures small { result ≤ 6 }
-    {
-        count_kind(Man::Pawn, self.first.as_slice())
-    }
-
-    fn second_pawns(&self) -> u8
-        ensures value { result ≡ pawn_count self.now.second }
-        ensures small { result ≤ 6 }
-    {
-        count_kind(Man::Pawn, self.second.as_slice())
-    }
-
     /// Returns the numbers of pawns of the lead colour and of the other.
     fn pawns(&self) -> (u8, u8)
         ensures lead { result.0 ≡ lead_pawns self.now }
         ensures other { result.1 ≡ other_pawns self.now }
     {
-        let first = self.first_pawns();
-        let second = self.second_pawns();
+        let first = pawn_count(self.first.as_slice());
+        let second = pawn_count(self.second.as_slice());
         if 0 < first && (second == 0 || first <= second) {
             (first, second)
         } else {
             (second, first)
         }
     }
+}
+
+/// Counts the pawns of one side.
+fn pawn_count(men: &[Man]) -> u8
+    requires { length men.now ≤ 6 }
+    ensures value { result ≡ pawn_count men.now }
+    ensures small { result ≤ 6 }
+{
+    men.iter().filter(|man| **man == Man::Pawn).count() as u8
 }
 
 /// Appends the codes of one side's men, with `side` added to each.
@@ -155,11 +149,13 @@ fn push_letters(name: &mut ArrayString<8>, men: &[Man])
     }
 }
 
-fn copy_men(men: &ArrayVec<Man, 6>) -> ArrayVec<Man, 6>
-    ensures { result.items ≡ men.now.items }
+/// Returns a list of at most six items.
+pub(crate) fn copied<T: Copy + Default>(items: &[T]) -> ArrayVec<T, 6>
+    requires { length items.now ≤ 6 }
+    ensures { result.items ≡ items.now }
 {
     let mut copy = ArrayVec::new();
-    let _ = copy.try_extend_from_slice(men.as_slice());
+    let _ = copy.try_extend_from_slice(items);
     copy
 }
 

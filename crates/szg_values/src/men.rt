@@ -1,7 +1,7 @@
 //! The kinds of men: their letters in a name and their codes in a file.
 
-ghost use Rattle.std.specs.Prelude.{◌≡◌, ◌<◌, ◌≤◌, length, count_by};
-ghost use Rattle.szg_values.specs.Men.{code_of, color_at, letter_of, man_at, man_of, is_man};
+ghost use Rattle.std.specs.Prelude.{◌≡◌, ◌<◌};
+ghost use Rattle.szg_values.specs.Men.{code_of, color_at, letter_of, man_at, man_of};
 ghost use Rattle.szg_values.specs.Material.{is_count};
 
 use crate::{Color, MAX_MEN, Man};
@@ -74,14 +74,6 @@ impl Color {
     {
         if code < 8 { Color::White } else { Color::Black }
     }
-}
-
-/// Counts the men of a kind.
-pub(crate) fn count_kind(kind: Man, men: &[Man]) -> u8
-    requires { length men.now ≤ 6 }
-    ensures { result ≡ count_by (is_man kind) men.now }
-{
-    men.iter().filter(|man| **man == kind).count() as u8
 }
 
 /// Returns whether a material may have this number of men.

@@ -1,6 +1,6 @@
 //! Parsing a name.
 
-ghost use Rattle.std.specs.Prelude.{◌≡◌, ◌≤◌, ◌<◌, ◌+◌, ◌&&◌, List, length, map, filter_map, count_by, is_some, IfSome, IfOk};
+ghost use Rattle.std.specs.Prelude.{◌≡◌, ◌≤◌, ◌<◌, ◌+◌, List, length, map, filter_map, is_some, IfSome, IfOk};
 ghost use Rattle.std.specs.List.{before_first, after_first, list_all};
 ghost use Rattle.std.specs.Option.{option_map_or};
 ghost use Rattle.szg_values.specs.declared.Man.{Man};
@@ -25,10 +25,10 @@ impl Material {
         let Some((first, second)) = split_name(text) else {
             return Err(NameFault::Letter);
         };
-        if !have_kings_first(first, second) {
+        if !has_king_first(first) || !has_king_first(second) {
             return Err(NameFault::King);
         }
-        if !are_in_order(first, second) {
+        if !is_in_order(first) || !is_in_order(second) {
             return Err(NameFault::Order);
         }
         if !may_be_first(first, second) {
@@ -62,7 +62,7 @@ fn split_name(text: &str) -> Option<(&[u8], &[u8])>
 fn is_spelled(text: &[u8]) -> bool
     ensures { result ≡ is_spelled text.now }
 {
-    has_name_letters(text) && count_v(text) == 1
+    has_name_letters(text) && text.iter().filter(|letter| **letter == b'v').count() == 1
 }
 
 /// Returns whether every byte of a text is one of K Q R B N P v.
@@ -72,25 +72,11 @@ fn has_name_letters(text: &[u8]) -> bool
     text.iter().all(|letter| is_name_letter(*letter))
 }
 
-/// Counts the letters v of a text.
-fn count_v(text: &[u8]) -> usize
-    ensures { result ≡ count_by is_v text.now }
-{
-    text.iter().filter(|letter| **letter == b'v').count()
-}
-
 /// Returns whether a byte is one of K Q R B N P v.
 fn is_name_letter(letter: u8) -> bool
     ensures { result ≡ is_name_letter letter }
 {
     matches!(letter, b'K' | b'Q' | b'R' | b'B' | b'N' | b'P' | b'v')
-}
-
-/// Returns whether the letters of each side begin with a K and have no second one.
-fn have_kings_first(first: &[u8], second: &[u8]) -> bool
-    ensures { (a b : List Man) → first.now ≡ map letter_of a → second.now ≡ map letter_of b → result ≡ (has_king_first a && has_king_first b) }
-{
-    has_king_first(first) && has_king_first(second)
 }
 
 /// Returns whether a side's letters begin with a K and have no second one.
@@ -101,13 +87,6 @@ fn has_king_first(side: &[u8]) -> bool
         [first, others @ ..] => *first == b'K' && !others.contains(&b'K'),
         [] => false,
     }
-}
-
-/// Returns whether the letters of each side are in the order K Q R B N P.
-fn are_in_order(first: &[u8], second: &[u8]) -> bool
-    ensures { (a b : List Man) → first.now ≡ map letter_of a → second.now ≡ map letter_of b → result ≡ (is_in_order a && is_in_order b) }
-{
-    is_in_order(first) && is_in_order(second)
 }
 
 /// Returns whether a side's letters are in the order K Q R B N P.
@@ -153,10 +132,7 @@ fn is_not_later(first: &[u8], second: &[u8]) -> bool
 fn code_of_letter(letter: u8) -> u8
     ensures { result ≡ option_map_or code_of (man_of letter) 0 }
 {
-    match Man::of_letter(letter) {
-        Some(man) => man.code(),
-        None => 0,
-    }
+    Man::of_letter(letter).map_or(0, |man| man.code())
 }
 
 /// Returns the men of a side's letters.

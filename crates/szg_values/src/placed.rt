@@ -1,6 +1,7 @@
 //! The men of a placement in a list that someone else owns.
 
-use crate::placements::are_complete;
+use crate::men::is_count;
+use crate::placements::has_kings;
 use crate::{Color, Man, Placement, Square};
 use std::marker::Model;
 
@@ -51,21 +52,10 @@ impl<'a> PlacedMen<'a> {
         ensures accepted { IsNone (placement_fault men.now) → result ≡ Some (record { placed_men = men.now; mover = mover }) }
         ensures refused { IsSome (placement_fault men.now) → result ≡ None }
     {
-        if are_complete(men.len(), key) {
+        if is_count(men.len()) && has_kings(key) {
             Some(PlacedMen { men, mover, key })
         } else {
             None
-        }
-    }
-
-    /// Borrows the same men again.
-    pub fn again(&self) -> PlacedMen<'a>
-        ensures { result ≡ self.now }
-    {
-        PlacedMen {
-            men: self.men,
-            mover: self.mover,
-            key: self.key,
         }
     }
 

@@ -1,13 +1,12 @@
 //! Placements: men on squares, and the side to move.
 
-ghost use Rattle.std.specs.Prelude.{◌≡◌, ◌≢◌, ℕ, IsTrue, true, false, ◌<◌, ◌≤◌, ◌+◌, ◌&&◌, ◌||◌, ◌++◌, ◌==◌, ◌/◌, ◌%◌, ◌^◌, length, replicate, Some, None, IsNone, IsSome, IfSome, IfOk, Ok, Err};
+ghost use Rattle.std.specs.Prelude.{◌≡◌, ◌≢◌, ℕ, IsTrue, true, false, ◌<◌, ◌≤◌, ◌+◌, ◌&&◌, ◌||◌, ◌++◌, ◌==◌, ◌/◌, ◌%◌, ◌^◌, length, replicate, Some, None, IsNone, IfSome, IfOk, Ok, Err};
 ghost use Rattle.std.specs.List.{list_any};
 ghost use Rattle.arrayvec.specs.ArrayVec.{array_vec_len};
-ghost use Rattle.szg_values.specs.Men.{is_man, is_color, rank_of};
 ghost use Rattle.szg_values.specs.Material.{is_count};
-ghost use Rattle.szg_values.specs.Placement.{AreOnBoard, AreStanding, colored_code, is_barred, men_key, placement_fault, material_of, number_of, has_men, has_distinct_squares, has_pawns_on_inner_ranks, is_taken, side_of};
+ghost use Rattle.szg_values.specs.Placement.{AreOnBoard, colored_code, is_barred, men_key, placement_fault, material_of, number_of, has_men, has_distinct_squares, has_pawns_on_inner_ranks, is_taken, side_of};
 
-use crate::materials::{NAME_ORDER, may_be_first};
+use crate::materials::{NAME_ORDER, copied, may_be_first};
 use crate::men::is_count;
 use crate::{Color, Man, Material, Placement, PlacementFault, Square};
 use arrayvec::ArrayVec;
@@ -19,14 +18,12 @@ impl Placement {
         ensures accepted { IsNone (placement_fault men.now) → result ≡ Ok (record { placed_men = men.now; mover = mover }) }
         ensures refused { IfSome (placement_fault men.now) (λ fault. result ≡ Err fault) }
     {
-        match checked_key(men) {
-            Ok(key) => Ok(Placement {
-                men: copy_placed_men(men),
-                mover,
-                key,
-            }),
-            Err(fault) => Err(fault),
-        }
+        let key = checked_key(men)?;
+        Ok(Placement {
+            men: copied(men),
+            mover,
+            key,
+        })
     }
 
     /// Creates a placement from a list that is moved, not copied. Errors: the first of the three faults of the men.
@@ -38,30 +35,8 @@ impl Placement {
         ensures accepted { IsNone (placement_fault men.items) → result ≡ Ok (record { placed_men = men.items; mover = mover }) }
         ensures refused { IfSome (placement_fault men.items) (λ fault. result ≡ Err fault) }
     {
-        match checked_key(men.as_slice()) {
-            Ok(key) => Ok(Placement { men, mover, key }),
-            Err(fault) => Err(fault),
-        }
-    }
-
-    /// Creates a placement of men that stand on squares of the board, each put there by [`with_man`], and of their key. None
-    /// if there aren't three to six of them, with exactly one king of each colour.
-    #[inline(always)]
-    pub fn of_standing(
-        men: ArrayVec<(Man, Color, Square), 6>,
-        mover: Color,
-        key: u64,
-    ) -> Option<Placement>
-        requires standing { AreStanding men.items }
-        requires key { key ≡ men_key men.items }
-        ensures accepted { IsNone (placement_fault men.items) → result ≡ Some (record { placed_men = men.items; mover = mover }) }
-        ensures refused { IsSome (placement_fault men.items) → result ≡ None }
-    {
-        if are_complete(men.len(), key) {
-            Some(Placement { men, mover, key })
-        } else {
-            None
-        }
+        let key = checked_key(men.as_slice())?;
+        Ok(Placement { men, mover, key })
     }
 
     /// Returns the men in the order given. They have no fault, and are on squares of the board.
@@ -145,15 +120,8 @@ fn sound_key(men: &[(Man, Color, Square)]) -> Option<u64>
     if has_kings(key) { Some(key) } else { None }
 }
 
-/// Returns whether there are three to six men, by their number, with exactly one king of each colour, by their key.
-pub(crate) fn are_complete(count: usize, key: u64) -> bool
-    ensures { result ≡ (is_count count && (key / 262144 % 8 == 1 && key / 4398046511104 == 1)) }
-{
-    is_count(count) && has_kings(key)
-}
-
 /// Returns whether a key has exactly one king of each colour.
-fn has_kings(key: u64) -> bool
+pub(crate) fn has_kings(key: u64) -> bool
     ensures { result ≡ (key / 262144 % 8 == 1 && key / 4398046511104 == 1) }
 {
     key / 262144 % 8 == 1 && key / 4398046511104 == 1
@@ -164,11 +132,7 @@ pub fn key_of(men: &[(Man, Color, Square)]) -> u64
     requires { length men.now ≤ 6 }
     ensures { result ≡ men_key men.now }
 {
-    let mut key = 0;
-    for man in men {
-        key += man_key(man.0, man.1);
-    }
-    key
+    men.iter().map(|man| man_key(man.0, man.1)).sum()
 }
 
 /// The squares on which a man may not stand, by his code, a bit for each: for a pawn those of ranks 1 and 8.
@@ -197,36 +161,16 @@ fn is_closed(taken: u64, man: Man, square: u8) -> bool
     requires { square < 64 }
     ensures { result ≡ (is_taken taken square || is_barred man square) }
 {
-    is_taken(taken | BARRED[usize::from(man.code())], square)
+    (taken | BARRED[usize::from(man.code())]) >> square & 1 == 1
 }
 
-/// What a man adds to a key, by his code: 8 to the power of the code.
-const KEYS: [u64; 16] = [
-    1,
-    8,
-    64,
-    512,
-    4096,
-    32768,
-    262144,
-    2097152,
-    16777216,
-    134217728,
-    1073741824,
-    8589934592,
-    68719476736,
-    549755813888,
-    4398046511104,
-    35184372088832,
-];
-
-/// Returns what a man adds to a placement's key.
+/// Returns what a man adds to a placement's key: 8 to the power of the code.
 #[inline(always)]
 pub fn man_key(man: Man, color: Color) -> u64
     ensures key { result ≡ 8 ^ colored_code man color }
     ensures small { result < 2 ^ 60 }
 {
-    KEYS[usize::from(colored_code(man, color))]
+    1 << (3 * colored_code(man, color))
 }
 
 /// Returns a man's code: that of his kind, plus 8 for Black. The colours' numbers are 0 and 1, so nothing branches.
@@ -235,14 +179,6 @@ fn colored_code(man: Man, color: Color) -> u8
     ensures below { result < 16 }
 {
     man.code() + 8 * (color as u8)
-}
-
-/// Returns whether the bit of a square is set in `taken`.
-fn is_taken(taken: u64, square: u8) -> bool
-    requires { square < 64 }
-    ensures { result ≡ is_taken taken square }
-{
-    taken >> square & 1 == 1
 }
 
 /// Sets the bit of a square in `taken`.
@@ -267,13 +203,9 @@ fn has_men(men: &[(Man, Color, Square)]) -> bool
 pub fn number_of(kind: Man, color: Color, men: &[(Man, Color, Square)]) -> usize
     ensures { result ≡ number_of kind color men.now }
 {
-    men.iter().filter(|man| is_of(kind, color, man)).count()
-}
-
-fn is_of(kind: Man, color: Color, man: &(Man, Color, Square)) -> bool
-    ensures { result ≡ (is_man kind man.now.0 && is_color color man.now.1) }
-{
-    man.0 == kind && man.1 == color
+    men.iter()
+        .filter(|man| man.0 == kind && man.1 == color)
+        .count()
 }
 
 /// Returns whether no two of at most six men are on one square.
@@ -301,23 +233,7 @@ fn is_on_square(number: u8, men: &[(Man, Color, Square)]) -> bool
 pub fn has_pawns_on_inner_ranks(men: &[(Man, Color, Square)]) -> bool
     ensures { result ≡ has_pawns_on_inner_ranks men.now }
 {
-    men.iter().all(|man| !is_pawn_on_outer_rank(man.0, man.2))
-}
-
-fn is_pawn_on_outer_rank(man: Man, square: Square) -> bool
-    ensures { result ≡ (is_man Man.Pawn man && (rank_of square == 0 || rank_of square == 7)) }
-{
-    let rank = square.number() / 8;
-    man == Man::Pawn && (rank == 0 || rank == 7)
-}
-
-fn copy_placed_men(men: &[(Man, Color, Square)]) -> ArrayVec<(Man, Color, Square), 6>
-    requires { length men.now ≤ 6 }
-    ensures { result.items ≡ men.now }
-{
-    let mut copy = ArrayVec::new();
-    let _ = copy.try_extend_from_slice(men);
-    copy
+    men.iter().all(|man| man.0 != Man::Pawn || (1..7).contains(&(man.2.number() / 8)))
 }
 
 /// Returns a colour's men in name order.

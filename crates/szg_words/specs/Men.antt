@@ -7,8 +7,6 @@ use Rattle.szg_values.specs.Men.{man_of}
 use Rattle.szg_values.specs.Placement.{PlacedMan, Board, placement_fault}
 use Rattle.szg_values.specs.declared.Man.TheVariants.{King}
 use Rattle.szg_values.specs.declared.PlacementFault.{PlacementFault}
-use Rattle.szg_words.specs.declared.men.MenFault.{MenFault}
-use Rattle.szg_words.specs.declared.men.MenFault.TheVariants as why
 use Rattle.szg_values.specs.declared.Color.{Color}
 use Rattle.szg_values.specs.declared.Color.TheVariants.{White, Black}
 
@@ -35,16 +33,16 @@ abbrev pub placed_man_of : List ℕ → PlacedMan
 placed_man_of word = unwrap_or (parsed_man word) (King, White, 0)
 
 -- a board, unless its men have a fault
-abbrev pub board_unless : Option PlacementFault → Board → Result Board MenFault
+abbrev pub board_unless : Option PlacementFault → Board → Result Board (Option PlacementFault)
 board_unless None board = Ok board
-board_unless (Some fault) board = Err (why.Placement fault)
+board_unless (Some fault) board = Err (Some fault)
 
 -- the men of all words
 abbrev pub placed_men_in : List (Bor (List ℕ)) → List PlacedMan
 placed_men_in words = map (λ word. placed_man_of word.now) words
 
--- the placement of these men, or why there is none
-unfoldable pub parsed_placement : List (Bor (List ℕ)) → Color → Result Board MenFault
+-- the placement of these men, or the men's fault; None if a word is no man's
+unfoldable pub parsed_placement : List (Bor (List ℕ)) → Color → Result Board (Option PlacementFault)
 parsed_placement words mover =
-    if not (list_all (λ word. is_man_word word.now) words) then Err why.Word else
+    if not (list_all (λ word. is_man_word word.now) words) then Err None else
     board_unless (placement_fault (placed_men_in words)) (record { placed_men = placed_men_in words; mover = mover })

@@ -5,11 +5,11 @@ use Rattle.std.specs.Str.{bytes_eq}
 use Rattle.clap.specs.Matches.{first_value, matched_of, raw_values}
 use Rattle.clap.specs.declared.parser.matches.Found.{Found}
 use Rattle.szg_values.specs.Placement.{Board}
-use Rattle.szg_archive.specs.declared.report_format.ReportFormat.{ReportFormat}
-use Rattle.szg_archive.specs.declared.report_format.ReportFormat.TheVariants as reports
+use Rattle.szg_values.specs.declared.PlacementFault.{PlacementFault}
+use Rattle.szg_named.specs.declared.checks.ReportFormat.{ReportFormat}
+use Rattle.szg_named.specs.declared.checks.ReportFormat.TheVariants as reports
 use Rattle.szg_words.specs.Men.{parsed_placement}
 use Rattle.szg_words.specs.Words.{parsed_class, parsed_form, is_word, parsed_kind, parsed_mover, number_from, parsed_part, parsed_side, word_of}
-use Rattle.szg_words.specs.declared.men.MenFault.{MenFault}
 use Rattle.szg_words.specs.declared.request.Action.{Action}
 use Rattle.szg_words.specs.declared.request.Action.TheVariants as actions
 use Rattle.szg_words.specs.declared.request.AskedClass.{AskedClass}
@@ -57,7 +57,7 @@ names_men command = bytes_eq command (codes "index") || bytes_eq command (codes 
 abbrev pub words_of : Found → List ℕ → List (List ℕ)
 words_of found argument = unwrap_or (option_map raw_values (matched_of found argument)) []
 
-abbrev pub action_of_men : Bool → Result Board MenFault → AskedClass → Action
+abbrev pub action_of_men : Bool → Result Board (Option PlacementFault) → AskedClass → Action
 action_of_men is_index (Err fault) class = actions.Unplaced fault
 action_of_men true (Ok board) class = actions.Index board
 action_of_men false (Ok board) class = actions.Probe board class

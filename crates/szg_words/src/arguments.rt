@@ -4,24 +4,13 @@ use clap::builder::{ValueParser, ValueRange};
 use clap::{Arg, ArgAction};
 use std::alloc::{AllocError, Global};
 
-/// The form of an argument on a command line.
-#[derive(Clone, Copy)]
-enum ArgumentForm {
-    /// A word.
-    Word,
-    /// One or more words, if any.
-    Words,
-    /// An option with a value, which has this name.
-    Option(&'static str),
-    /// An option without a value.
-    Flag,
-}
-
 /// An argument of a command.
 #[derive(Clone, Copy)]
 pub struct Argument {
     pub id: &'static str,
-    form: ArgumentForm,
+    /// The name of an option's value. None for a word, words or an option without a value.
+    value: Option<&'static str>,
+    /// `Append` for words and for options that may be given several times, `SetTrue` for an option without a value.
     action: ArgAction,
     is_required: bool,
     short: Option<char>,
@@ -37,7 +26,7 @@ pub struct Argument {
 /// A word that has to be there.
 const WORD: Argument = Argument {
     id: "",
-    form: ArgumentForm::Word,
+    value: None,
     action: ArgAction::Set,
     is_required: true,
     short: None,
@@ -50,7 +39,6 @@ const WORD: Argument = Argument {
 
 /// One or more words.
 const WORDS: Argument = Argument {
-    form: ArgumentForm::Words,
     action: ArgAction::Append,
     ..WORD
 };
@@ -70,7 +58,6 @@ const NUMBER: Argument = Argument {
 
 /// An option without a value.
 const FLAG: Argument = Argument {
-    form: ArgumentForm::Flag,
     action: ArgAction::SetTrue,
     is_required: false,
     values: ValueParser::Bool,
@@ -110,14 +97,14 @@ pub(crate) const NAMES: Argument = Argument {
 
 pub(crate) const LOG: Argument = Argument {
     id: "resume",
-    form: ArgumentForm::Option("LOG"),
+    value: Some("LOG"),
     help: "Pass over materials that LOG, the output of earlier runs, has as verified with{n}the same tables",
     ..OPTION
 };
 
 pub(crate) const POSITIONS_SHARD: Argument = Argument {
     id: "shard",
-    form: ArgumentForm::Option("K/N"),
+    value: Some("K/N"),
     help: "Check only the K-th of N parts of the positions of NAME",
     ..OPTION
 };
@@ -131,7 +118,7 @@ pub(crate) const DUMP: Argument = Argument {
 
 pub(crate) const NAME_GIVEN: Argument = Argument {
     id: "name",
-    form: ArgumentForm::Option("NAME"),
+    value: Some("NAME"),
     values: ValueParser::String,
     help: "Material of the table [default: from the file name]",
     ..OPTION
@@ -139,7 +126,7 @@ pub(crate) const NAME_GIVEN: Argument = Argument {
 
 pub(crate) const KIND_GIVEN: Argument = Argument {
     id: "kind",
-    form: ArgumentForm::Option("KIND"),
+    value: Some("KIND"),
     values: ValueParser::Names(&["wdl", "dtz"]),
     help: "Kind of the table [default: from the file name]",
     ..OPTION
@@ -147,7 +134,7 @@ pub(crate) const KIND_GIVEN: Argument = Argument {
 
 pub(crate) const OUTPUT: Argument = Argument {
     id: "output",
-    form: ArgumentForm::Option("FILE"),
+    value: Some("FILE"),
     short: Some('o'),
     help: "Write to FILE, completely or not at all [default: standard output]",
     ..OPTION
@@ -167,7 +154,7 @@ pub(crate) const QUIET: Argument = Argument {
 
 pub(crate) const SUMS: Argument = Argument {
     id: "sums",
-    form: ArgumentForm::Option("LIST"),
+    value: Some("LIST"),
     action: ArgAction::Append,
     help: "Compare each file with its sum in LIST, as md5sum, sha1sum, sha256sum or sha512sum{n}writes it; may be given several times",
     ..OPTION
@@ -175,7 +162,7 @@ pub(crate) const SUMS: Argument = Argument {
 
 pub(crate) const LOGS: Argument = Argument {
     id: "resume",
-    form: ArgumentForm::Option("LOG"),
+    value: Some("LOG"),
     action: ArgAction::Append,
     help: "Leave out files that are good by their last record in LOG (a report in tsv or json), and have{n}not changed since, unless --sums or --manifest is given; may be given several times",
     ..OPTION
@@ -183,21 +170,21 @@ pub(crate) const LOGS: Argument = Argument {
 
 pub(crate) const MANIFEST: Argument = Argument {
     id: "manifest",
-    form: ArgumentForm::Option("FILE"),
+    value: Some("FILE"),
     help: "Write the SHA-256 sums of the files that pass to FILE, as sha256sum does, at the end of the run",
     ..OPTION
 };
 
 pub(crate) const FILES_SHARD: Argument = Argument {
     id: "shard",
-    form: ArgumentForm::Option("K/N"),
+    value: Some("K/N"),
     help: "Check only every N-th file, from the K-th on: runs with K from 1 to N share the files out",
     ..OPTION
 };
 
 pub(crate) const REPORT: Argument = Argument {
     id: "format",
-    form: ArgumentForm::Option("FORMAT"),
+    value: Some("FORMAT"),
     default: Some("text"),
     values: ValueParser::Names(&["text", "tsv", "json"]),
     help: "Format of the report: text is one line per file; tsv and json are one record per file:{n}path, verdict, bytes, reason, offset (bytes), time (seconds), last change{n}(nanoseconds from 1970); a summary follows",
@@ -233,7 +220,7 @@ pub(crate) const MEN: Argument = Argument {
 
 pub(crate) const PART: Argument = Argument {
     id: "part",
-    form: ArgumentForm::Option("PART"),
+    value: Some("PART"),
     default: Some("a"),
     values: ValueParser::Names(&["a", "b", "c", "d"]),
     help: "Part, by the file of the lead pawn: a for a and h, b for b and g, c for c and f,{n}d for d and e; a table without pawns has part a only",
@@ -242,7 +229,7 @@ pub(crate) const PART: Argument = Argument {
 
 pub(crate) const SIDE: Argument = Argument {
     id: "side",
-    form: ArgumentForm::Option("SIDE"),
+    value: Some("SIDE"),
     default: Some("0"),
     greatest: 1,
     help: "Side, 0 or 1: in a WDL table with two sides, 0 is where the first side of the name{n}moves; every other table has side 0 only",
@@ -251,7 +238,7 @@ pub(crate) const SIDE: Argument = Argument {
 
 pub(crate) const CLASS: Argument = Argument {
     id: "class",
-    form: ArgumentForm::Option("CLASS"),
+    value: Some("CLASS"),
     default: Some("win"),
     values: ValueParser::Names(&["win", "cursed", "draw", "blessed", "loss"]),
     help: "Class of the placement for the side to move, which a DTZ table does not store; its number,{n}the plies before the zeroing one, is that of a win unless another class is given, and may be{n}one ply too low if the table stores it in moves, rounded; ignored{n}for a WDL table",
@@ -260,7 +247,7 @@ pub(crate) const CLASS: Argument = Argument {
 
 pub(crate) const FORM: Argument = Argument {
     id: "form",
-    form: ArgumentForm::Option("FORM"),
+    value: Some("FORM"),
     default: Some("2"),
     least: 1,
     greatest: 2,
@@ -270,7 +257,7 @@ pub(crate) const FORM: Argument = Argument {
 
 pub(crate) const PLAN: Argument = Argument {
     id: "plan",
-    form: ArgumentForm::Option("PLAN"),
+    value: Some("PLAN"),
     default: Some("fixed"),
     values: ValueParser::Names(&["fixed", "small"]),
     help: "fixed takes --block, --span and --rounds; small chooses for a small file, and takes{n}none of them",
@@ -279,7 +266,7 @@ pub(crate) const PLAN: Argument = Argument {
 
 pub(crate) const BLOCK: Argument = Argument {
     id: "block",
-    form: ArgumentForm::Option("BITS"),
+    value: Some("BITS"),
     default: Some("6"),
     least: 5,
     greatest: 10,
@@ -289,7 +276,7 @@ pub(crate) const BLOCK: Argument = Argument {
 
 pub(crate) const SPAN: Argument = Argument {
     id: "span",
-    form: ArgumentForm::Option("BITS"),
+    value: Some("BITS"),
     default: Some("12"),
     least: 1,
     greatest: 16,
@@ -299,7 +286,7 @@ pub(crate) const SPAN: Argument = Argument {
 
 pub(crate) const ROUNDS: Argument = Argument {
     id: "rounds",
-    form: ArgumentForm::Option("COUNT"),
+    value: Some("COUNT"),
     default: Some("256"),
     greatest: 4000,
     help: "Maximum number of pairs in a dictionary, from 0 to 4000",
@@ -322,9 +309,9 @@ impl Argument {
     /// Returns its form in a usage.
     pub(crate) fn shown(&self, alloc: Global) -> Result<String, AllocError> {
         let id = self.id;
-        match self.form {
-            ArgumentForm::Option(value) => format!(in alloc; "--{id} <{value}>"),
-            _ => format!(in alloc; "<{id}>"),
+        match self.value {
+            Some(value) => format!(in alloc; "--{id} <{value}>"),
+            None => format!(in alloc; "<{id}>"),
         }
     }
 
@@ -342,11 +329,11 @@ impl Argument {
         if let Some(default) = self.default {
             arg = arg.default_value(default);
         }
-        match self.form {
-            ArgumentForm::Word => arg,
-            ArgumentForm::Words => arg.num_args(ValueRange::from(1usize..)),
-            ArgumentForm::Option(value) => arg.long(self.id).value_name(value),
-            ArgumentForm::Flag => arg.long(self.id),
+        match (self.value, self.action) {
+            (Some(value), _) => arg.long(self.id).value_name(value),
+            (None, ArgAction::SetTrue) => arg.long(self.id),
+            (None, ArgAction::Append) => arg.num_args(ValueRange::from(1usize..)),
+            (None, _) => arg,
         }
     }
 }

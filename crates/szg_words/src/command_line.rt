@@ -168,11 +168,6 @@ pub(crate) fn program<'a>(alloc: Global, form: CommandForm) -> Result<Command<'a
     'commands: for name in &COMMANDS {
         commands.push(command_of(alloc, name, form)?)?;
     }
-    described(alloc)?.subcommands(commands)
-}
-
-/// The program before its commands.
-fn described<'a>(alloc: Global) -> Result<Command<'a>, AllocError> {
     Command::new(alloc, "szg")
         .version("2.0.0")
         .about(
@@ -181,7 +176,8 @@ fn described<'a>(alloc: Global) -> Result<Command<'a>, AllocError> {
         .after_help(AFTER_HELP)
         .subcommand_required(true)
         .arg_required_else_help(true)
-        .bin_name("szg")
+        .bin_name("szg")?
+        .subcommands(commands)
 }
 
 /// A command with its arguments.

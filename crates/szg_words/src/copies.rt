@@ -47,33 +47,18 @@ pub fn copies_of<'a>(
     })
 }
 
-/// Returns the first file whose name an earlier one has: its copy would replace the other's.
-fn same_name<'a>(paths: &[&'a str]) -> Option<&'a str> {
-    'paths: for (number, path) in paths.iter().enumerate() {
-        let name = Path::new(path).file_name();
-        if paths
-            .iter()
-            .take(number)
-            .any(|other| Path::new(other).file_name() == name)
-        {
-            return Some(path);
-        }
-    }
-    None
-}
-
-/// Returns the error of the first file whose name an earlier one has. None if there is none.
+/// Returns the error of the first file whose name an earlier one has: its copy would replace the other's. None if there is
+/// none.
 pub fn same_name_error(alloc: Global, files: &[&str]) -> Result<Option<Error>, AllocError> {
-    let Some(path) = same_name(files) else {
-        return Ok(None);
-    };
-    let message = format!(in alloc; "another file has the name of '{path}'")?;
-    let error = usage_error(
-        alloc,
-        "copy",
-        CommandForm::Files,
-        ErrorKind::ArgumentConflict,
-        message.as_str(),
-    )?;
-    Ok(Some(error))
+    'files: for (number, path) in files.iter().enumerate() {
+        let name = Path::new(path).file_name();
+        let mut earlier = files.iter().take(number);
+        if !earlier.any(|other| Path::new(other).file_name() == name) {
+            continue;
+        }
+        let message = format!(in alloc; "another file has the name of '{path}'")?;
+        let kind = ErrorKind::ArgumentConflict;
+        return Ok(Some(usage_error(alloc, "copy", CommandForm::Files, kind, message.as_str())?));
+    }
+    Ok(None)
 }

@@ -7,7 +7,7 @@ ghost use Rattle.clap.specs.declared.error.kind.ErrorKind.{ErrorKind};
 ghost use Rattle.szg_named.specs.Named.{name_given, named_as};
 ghost use Rattle.szg_words.specs.Requested.{parsed_report_format, words_of};
 ghost use Rattle.szg_words.specs.Chosen.{AsksForJob, AsksForNoJob, IsWordsFault};
-ghost use Rattle.szg_words.specs.Jobs.{AreOptionsIn, IsJobIn, IsShardIn, IsShardWord, kind_given};
+ghost use Rattle.szg_words.specs.Jobs.{IsJobIn, IsShardIn, IsShardWord, kind_given};
 
 use crate::command_line::CommandForm;
 use crate::finding::Finder;
@@ -18,14 +18,22 @@ use crate::request::{
 };
 use clap::{ArgMatches, Error};
 use std::alloc::{AllocError, Global};
-use szg_archive::{CheckOptions, FileShard, ReportFormat};
-use szg_named::{Naming, named_as, named_by};
+use szg_named::{FileShard, Naming, ReportFormat, named_as, named_by};
 use szg_values::Material;
 
 /// The check of files and of what is below folders.
 #[derive(Drop)]
 pub struct CheckJob<'a> {
-    pub options: CheckOptions<'a>,
+    /// The name and the kind of each file, if they are given.
+    pub naming: Naming<'a>,
+    /// Whether bytes may follow a table.
+    pub allow_trailing: bool,
+    /// How the report is written.
+    pub format: ReportFormat,
+    /// Whether the report has only files that are refused or unread.
+    pub quiet: bool,
+    /// Which files are checked, if not all.
+    pub shard: Option<FileShard>,
     /// The lists of sums.
     pub lists: Vec<&'a str>,
     /// The logs of earlier runs.
@@ -73,10 +81,7 @@ fn is_file_option(word: &str) -> bool {
 fn build_names_files(words: &[&str]) -> bool {
     let mut is_value = false;
     'words: for word in words {
-        if is_file_option(word) {
-            return true;
-        }
-        if !is_value && !word.starts_with('-') {
+        if is_file_option(word) || (!is_value && !word.starts_with('-')) {
             return true;
         }
         is_value = matches!(*word, "--plan" | "--block" | "--span" | "--rounds");
@@ -86,16 +91,10 @@ fn build_names_files(words: &[&str]) -> bool {
 
 /// Whether the words of `check` name files or folders: it is no table's name that comes first, and no word is a kind.
 fn check_names_files(words: &[&str]) -> bool {
-    let mut first = None;
-    'words: for word in words {
-        if matches!(*word, "wdl" | "dtz") {
-            return false;
-        }
-        if first.is_none() && !word.starts_with('-') {
-            first = Some(*word);
-        }
+    if words.iter().any(|word| matches!(*word, "wdl" | "dtz")) {
+        return false;
     }
-    match first {
+    match words.iter().find(|word| !word.starts_with('-')) {
         Some(word) => Material::parse(word).is_err(),
         None => false,
     }
@@ -117,12 +116,8 @@ pub fn names_files(words: &[&str]) -> bool {
     if words[1] == "check" && check_names_files(rest) {
         return true;
     }
-    'rest: for word in rest {
-        if named_by(word).is_some() || is_file_option(word) {
-            return true;
-        }
-    }
-    false
+    rest.iter()
+        .any(|word| named_by(word).is_some() || is_file_option(word))
 }
 
 /// What the words of a command that names files ask for.
@@ -228,23 +223,6 @@ fn shard_in<'a>(alloc: Global, chosen: &ArgMatches<'a>) -> Result<Option<FileSha
     }
 }
 
-/// How files are to be checked.
-fn options_in<'a>(chosen: &ArgMatches<'a>, shard: Option<FileShard>) -> CheckOptions<'a>
-    requires { IsShardIn (first_value (found_of chosen.now) (codes "shard")) shard }
-    ensures { AreOptionsIn (found_of chosen.now) result }
-{
-    CheckOptions {
-        naming: naming_in(chosen),
-        allow_trailing: is_given(chosen.get_str("allow-trailing"), "true"),
-        format: report_format_of(chosen.get_str("format")),
-        quiet: is_given(chosen.get_str("quiet"), "true"),
-        sums: None,
-        shard,
-        log: None,
-        has_manifest: chosen.get_str("manifest").is_some(),
-    }
-}
-
 /// The words of an argument that may have several.
 fn texts_in<'a>(
     alloc: Global,
@@ -267,9 +245,12 @@ fn check_in<'a>(alloc: Global, chosen: &ArgMatches<'a>) -> Result<FileJob<'a>, W
     ensures job { IfOk result (IsJobIn (codes "check") (found_of chosen.now)) }
     ensures none { IfErr result (IsWordsFault (codes "check") (found_of chosen.now)) }
 {
-    let shard = shard_in(alloc, chosen)?;
     Ok(FileJob::Check(CheckJob {
-        options: options_in(chosen, shard),
+        naming: naming_in(chosen),
+        allow_trailing: is_given(chosen.get_str("allow-trailing"), "true"),
+        format: report_format_of(chosen.get_str("format")),
+        quiet: is_given(chosen.get_str("quiet"), "true"),
+        shard: shard_in(alloc, chosen)?,
         lists: texts_in(alloc, chosen, "sums")?,
         logs: texts_in(alloc, chosen, "resume")?,
         manifest: chosen.get_str("manifest"),

@@ -72,16 +72,14 @@ fn with_usage(
         return Ok(error);
     }
     let text = format!(in alloc; "{error}")?;
-    let Some(message) = message_in(text.as_str()) else {
-        return Ok(error);
-    };
-    match words.get(1) {
-        Some(command) => usage_error(alloc, command, form, ErrorKind::InvalidValue, message),
-        None => Ok(error),
+    // between its first word and the hint at its end
+    let message = text
+        .strip_prefix("error: ")
+        .and_then(|text| text.strip_suffix(HINT));
+    match (words.get(1), message) {
+        (Some(command), Some(message)) => {
+            usage_error(alloc, command, form, ErrorKind::InvalidValue, message)
+        }
+        _ => Ok(error),
     }
-}
-
-/// The message in an error's text, between its first word and the hint at its end.
-fn message_in(text: &str) -> Option<&str> {
-    text.strip_prefix("error: ")?.strip_suffix(HINT)
 }

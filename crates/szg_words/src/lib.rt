@@ -19,7 +19,6 @@ pub use copies::{CopyWords, copies_of, same_name_error};
 pub use file_words::{CheckJob, FileJob, names_files, parse_files};
 pub use finding::{Clap, Finder};
 pub use meant::meant_name;
-pub use men::MenFault;
 pub use positions::{AnswerForm, ProbeWords, assumes_win, probe_of};
 pub use request::{Action, AskedClass, BuildPlan, DumpForm, Request, Task, parse};
 pub use verification::{FolderWords, verification_of};

@@ -2,38 +2,26 @@
 
 ghost use Rattle.std.specs.Prelude.{◌≡◌, ◌≤◌, IsTrue, length};
 ghost use Rattle.std.specs.List.{list_all};
-ghost use Rattle.szg_words.specs.Men.{parsed_color, is_man_word, parsed_man, parsed_placement, parsed_square, placed_men_in, placed_man_of};
+ghost use Rattle.szg_words.specs.Men.{is_man_word, parsed_man, parsed_placement, parsed_square, placed_men_in, placed_man_of};
 
 use arrayvec::ArrayVec;
 use szg_values::{Color, MAX_MEN, Man, Placement, PlacementFault, Square};
 
-/// Why words make no placement.
-#[derive(Clone, Copy)]
-pub enum MenFault {
-    /// A word isn't a man's letter, a file and a rank.
-    Word,
-    /// The men make no placement.
-    Placement(PlacementFault),
-}
-
 /// Parses the placement of these words, with this mover.
 ///
-/// Errors: `Word` if a word is no man's, else `Placement` if the men make none.
+/// Errors: None if a word isn't a man's letter, a file and a rank; else why the men make no placement.
 #[tactic(auto, unfolding(crate::specs::Men::parsed_placement))]
-pub fn placement_in(words: &[&str], mover: Color) -> Result<Placement, MenFault>
+pub fn placement_in(words: &[&str], mover: Color) -> Result<Placement, Option<PlacementFault>>
     ensures { result ≡ parsed_placement words.now mover }
 {
     if !are_man_words(words) {
-        return Err(MenFault::Word);
+        return Err(None);
     }
     if words.len() > MAX_MEN {
-        return Err(MenFault::Placement(PlacementFault::Men));
+        return Err(Some(PlacementFault::Men));
     }
     let men = men_in(words);
-    match Placement::new(men.as_slice(), mover) {
-        Ok(placement) => Ok(placement),
-        Err(fault) => Err(MenFault::Placement(fault)),
-    }
+    Placement::new(men.as_slice(), mover).map_err(Some)
 }
 
 /// Returns whether each word is a man's.
@@ -76,18 +64,12 @@ fn man_in(word: &str) -> Option<(Man, Color, Square)>
     };
     let square = square_in(*file, *rank)?;
     let man = Man::of_letter(letter.to_ascii_uppercase())?;
-    Some((man, color_in(*letter), square))
-}
-
-/// The colour of a letter.
-fn color_in(letter: u8) -> Color
-    ensures { result ≡ parsed_color letter }
-{
-    if letter.is_ascii_uppercase() {
+    let color = if letter.is_ascii_uppercase() {
         Color::White
     } else {
         Color::Black
-    }
+    };
+    Some((man, color, square))
 }
 
 /// The square of a file's letter and a rank's digit.

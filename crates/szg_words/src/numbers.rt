@@ -2,6 +2,8 @@
 
 ghost use Rattle.std.specs.Prelude.{◌≡◌, ◌≤◌, ℕ, List, IfOk, IfErr, Some, None};
 ghost use Rattle.std.specs.Borrow.{Bor};
+ghost use Rattle.std.specs.Char.{is_ascii_digit};
+ghost use Rattle.std.specs.List.{list_all};
 ghost use Rattle.clap.specs.Matches.{found_of};
 ghost use Rattle.szg_words.specs.Words.{number_from, parsed_number, word_of};
 
@@ -27,16 +29,16 @@ pub fn number_of<'a>(chosen: &ArgMatches<'a>, argument: Argument) -> Result<u64,
 pub(crate) fn number(text: &str) -> Option<u64>
     ensures { result ≡ parsed_number text.now }
 {
-    if text.is_empty() {
-        return None;
+    if are_digits(text.as_bytes()) {
+        text.parse().ok()
+    } else {
+        None
     }
-    let mut value = 0u64;
-    'digits: for byte in text.as_bytes() {
-        if !byte.is_ascii_digit() {
-            return None;
-        }
-        let digit = (*byte - b'0') as u64;
-        value = value.checked_mul(10)?.checked_add(digit)?;
-    }
-    Some(value)
+}
+
+/// Returns whether each byte is a decimal digit.
+fn are_digits(text: &[u8]) -> bool
+    ensures { result ≡ list_all is_ascii_digit text.now }
+{
+    text.iter().all(|byte| byte.is_ascii_digit())
 }

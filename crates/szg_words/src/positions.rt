@@ -22,7 +22,15 @@ pub struct ProbeWords<'a> {
 /// Returns what a command line asks of folders: its command is `probe`, and its last word has a space, or is `-`.
 /// `--format json` may stand before the folders, or after that word. None if there is another option.
 pub fn probe_of<'a>(words: &'a [&'a str]) -> Option<ProbeWords<'a>> {
-    let (form, rest) = form_in(words.get(1..)?.strip_prefix(&["probe"])?);
+    let words = words.get(1..)?.strip_prefix(&["probe"])?;
+    let option: [&str; 2] = ["--format", "json"];
+    let joined: [&str; 1] = ["--format=json"];
+    let before = words.strip_prefix(&option).or(words.strip_prefix(&joined));
+    let after = words.strip_suffix(&option).or(words.strip_suffix(&joined));
+    let (form, rest) = match before.or(after) {
+        Some(rest) => (AnswerForm::Json, rest),
+        None => (AnswerForm::Text, words),
+    };
     let (fen, folders) = rest.split_last()?;
     if folders.is_empty() || !is_fen(fen) || folders.iter().any(|word| word.starts_with("--")) {
         return None;
@@ -33,18 +41,6 @@ pub fn probe_of<'a>(words: &'a [&'a str]) -> Option<ProbeWords<'a>> {
 /// Returns whether a word is a position's text, or asks for the lines of the input.
 fn is_fen(word: &str) -> bool {
     word == "-" || word.contains(' ')
-}
-
-/// Returns the form that words ask for, and the other words.
-fn form_in<'a>(words: &'a [&'a str]) -> (AnswerForm, &'a [&'a str]) {
-    let option: [&str; 2] = ["--format", "json"];
-    let joined: [&str; 1] = ["--format=json"];
-    let before = words.strip_prefix(&option).or(words.strip_prefix(&joined));
-    let after = words.strip_suffix(&option).or(words.strip_suffix(&joined));
-    match before.or(after) {
-        Some(rest) => (AnswerForm::Json, rest),
-        None => (AnswerForm::Text, words),
-    }
 }
 
 /// Whether the words ask a DTZ table for a placement's number, and give no class and no position's text.

@@ -1,20 +1,20 @@
 ghost use Rattle.std.specs.Prelude.{◌≡◌, ◌⊎◌, true, false, IfErr, IfOk, IsNone, MatchOption, Some, codes, map, option_map};
 ghost use Rattle.clap.specs.Matches.{first_value, found_of};
 ghost use Rattle.clap.specs.Values.{kind_of as kind_of_error};
-ghost use Rattle.szg_words.specs.Requested.{IsActionOf, IsActionOnMen, IsLookUp, IsPlanIn, IsTaskIn, action_of_men, parsed_action, parsed_look_up, names_men};
+ghost use Rattle.szg_words.specs.Requested.{IsActionOf, IsActionOnMen, IsLookUp, IsPlanIn, IsTaskIn, action_of_men, parsed_action, names_men};
 ghost use Rattle.szg_words.specs.Chosen.{AsksFor, AsksForNone, is_number, line_of, has_numbers, has_sizes, has_table_numbers, has_unused, is_given as is_typed};
-ghost use Rattle.szg_words.specs.Words.{is_word, number_of_class, number_of_form, parsed_class, parsed_form, parsed_kind, parsed_mover, parsed_part, parsed_side};
+ghost use Rattle.szg_words.specs.Words.{is_word, number_of_class, number_of_form, parsed_class, parsed_kind, parsed_mover, parsed_part, parsed_side};
 
 use crate::arguments::{Argument, BLOCK, FORM, INDEX, ROUNDS, SIDE, SPAN};
 use crate::command_line::{CommandForm, command_of, program};
 use crate::finding::Finder;
-use crate::men::{MenFault, placement_in};
+use crate::men::placement_in;
 use crate::numbers::number_of;
 use clap::error::ErrorKind;
 use clap::parser::ValueSource;
 use clap::{ArgMatches, Error};
 use std::alloc::{AllocError, Global};
-use szg_values::{Color, Kind, Placement};
+use szg_values::{Color, Kind, Placement, PlacementFault};
 
 /// The class of a placement for the side to move.
 #[derive(Clone, Copy)]
@@ -81,8 +81,8 @@ pub enum Action {
     Probe(Placement, AskedClass),
     /// The placement of an index.
     Placement(u64),
-    /// The words are no placement's.
-    Unplaced(MenFault),
+    /// The words make no placement. Carries why, or None if a word is no man's.
+    Unplaced(Option<PlacementFault>),
 }
 
 impl Action {
@@ -198,46 +198,39 @@ pub(crate) fn words_error(
     let (kind, message) = match fault {
         WordsFault::Number { argument, word } => {
             let shown = argument.shown(alloc)?;
-            let Argument {
-                least,
-                greatest,
-                ..
-            } = argument;
             let message = format!(in alloc;
-                "invalid value '{word}' for '{shown}': not a number from {least} to {greatest}"
-            )?;
-            (ErrorKind::ValueValidation, message)
+                "invalid value '{word}' for '{shown}': not a number from {} to {}",
+                argument.least, argument.greatest
+            );
+            (ErrorKind::ValueValidation, message?)
         }
         WordsFault::Unused(argument) => {
             let shown = argument.shown(alloc)?;
             let message = format!(in alloc;
                 "the argument '--plan small' cannot be used with '{shown}'"
-            )?;
-            (ErrorKind::ArgumentConflict, message)
+            );
+            (ErrorKind::ArgumentConflict, message?)
         }
         WordsFault::Kind => {
-            let message = String::from_str(
+            let message =
+                "the file's ending is neither .rtbw nor .rtbz: give its kind by '--kind <KIND>'";
+            return usage_error(
                 alloc,
-                "the file's ending is neither .rtbw nor .rtbz: give its kind by '--kind <KIND>'",
-            )?;
-            (ErrorKind::MissingRequiredArgument, message)
+                command,
+                form,
+                ErrorKind::MissingRequiredArgument,
+                message,
+            );
         }
         WordsFault::Shard(word) => {
             let message = format!(in alloc;
                 "invalid value '{word}' for '--shard <K/N>': not a number K from 1 to N, a slash and N"
-            )?;
-            (ErrorKind::ValueValidation, message)
+            );
+            (ErrorKind::ValueValidation, message?)
         }
         WordsFault::Memory => return Err(AllocError),
     };
     usage_error(alloc, command, form, kind, message.as_str())
-}
-
-/// Whether the words ask for a small plan.
-fn is_small(chosen: &ArgMatches<'_>) -> bool
-    ensures { result ≡ is_word (first_value (found_of chosen.now) (codes "plan")) (codes "small") }
-{
-    is_given(chosen.get_str("plan"), "small")
 }
 
 /// Whether there is this word.
@@ -264,7 +257,7 @@ fn is_typed(chosen: &ArgMatches<'_>, argument: &str) -> bool
 pub(crate) fn unused_by_plan(chosen: &ArgMatches<'_>) -> Option<Argument>
     ensures { MatchOption result (has_unused (found_of chosen.now) ≡ false) (λ argument. has_unused (found_of chosen.now) ≡ true) }
 {
-    if !is_small(chosen) {
+    if !is_given(chosen.get_str("plan"), "small") {
         return None;
     }
     if is_typed(chosen, "block") {
@@ -310,7 +303,7 @@ pub fn plan_in<'a>(chosen: &ArgMatches<'a>) -> Result<BuildPlan, WordsFault<'a>>
     ensures plan { IfOk result (IsPlanIn (found_of chosen.now)) }
     ensures none { IfErr result (λ fault. (is_number fault ≡ true) × (is_word (first_value (found_of chosen.now) (codes "plan")) (codes "small") ≡ false) × (has_sizes (found_of chosen.now) ≡ false)) }
 {
-    if is_small(chosen) {
+    if is_given(chosen.get_str("plan"), "small") {
         return Ok(BuildPlan::Small);
     }
     Ok(BuildPlan::Fixed {
@@ -334,8 +327,15 @@ pub(crate) fn request_on<'a>(
     ensures action { IfOk result (λ request. IsActionOf command.now (found_of chosen.now) request.action) }
     ensures none { IfErr result (λ fault. (is_number fault ≡ true) × (has_table_numbers command.now (found_of chosen.now) ≡ false)) }
 {
-    let action = action_in(command, chosen)?;
-    let side = side_in(command, chosen)?;
+    let action = if names_men(command) {
+        action_on_men(command, chosen)
+    } else {
+        action_without_men(command, chosen)?
+    };
+    let side = match command {
+        "get" | "values" | "placement" => number_of(chosen, SIDE)? as u8,
+        _ => 0,
+    };
     Ok(Request {
         name,
         kind,
@@ -343,28 +343,6 @@ pub(crate) fn request_on<'a>(
         side,
         action,
     })
-}
-
-/// The side that is asked, 0 for a command that asks for none.
-fn side_in<'a>(command: &str, chosen: &ArgMatches<'a>) -> Result<u8, WordsFault<'a>>
-    ensures side { IfOk result (λ side. parsed_side command.now (found_of chosen.now) ≡ Some side) }
-    ensures none { IfErr result (λ fault. (is_number fault ≡ true) × IsNone (parsed_side command.now (found_of chosen.now))) }
-{
-    match command {
-        "get" | "values" | "placement" => Ok(number_of(chosen, SIDE)? as u8),
-        _ => Ok(0),
-    }
-}
-
-/// What a command asks of a table.
-fn action_in<'a>(command: &str, chosen: &ArgMatches<'a>) -> Result<Action, WordsFault<'a>>
-    ensures action { IfOk result (IsActionOf command.now (found_of chosen.now)) }
-    ensures none { IfErr result (λ fault. (is_number fault ≡ true) × (names_men command.now ≡ false) × IsNone (parsed_action command.now (found_of chosen.now))) }
-{
-    if names_men(command) {
-        return Ok(action_on_men(command, chosen));
-    }
-    action_without_men(command, chosen)
 }
 
 /// Whether a command is asked of a placement's men.
@@ -382,23 +360,26 @@ fn action_without_men<'a>(command: &str, chosen: &ArgMatches<'a>) -> Result<Acti
     Ok(match command {
         "check" => Action::Check,
         "show" => Action::Show,
-        "get" => look_up(number_of(chosen, INDEX)?, chosen),
+        "get" => {
+            let index = number_of(chosen, INDEX)?;
+            if is_given(chosen.get_str("steps"), "true") {
+                Action::GetCounted(index)
+            } else {
+                Action::Get(index)
+            }
+        }
         "values" => Action::Values,
         "placement" => Action::Placement(number_of(chosen, INDEX)?),
-        "dump" => Action::Dump(form_of(number_of(chosen, FORM)?)),
+        "dump" => {
+            let form = if number_of(chosen, FORM)? == 1 {
+                DumpForm::Values
+            } else {
+                DumpForm::Runs
+            };
+            Action::Dump(form)
+        }
         _ => Action::Copy,
     })
-}
-
-/// What is asked of an index: the value alone, or also the steps to it.
-fn look_up(index: u64, chosen: &ArgMatches<'_>) -> Action
-    ensures { result ≡ parsed_look_up (found_of chosen.now) index }
-{
-    if is_given(chosen.get_str("steps"), "true") {
-        Action::GetCounted(index)
-    } else {
-        Action::Get(index)
-    }
 }
 
 /// What is asked of the placement of the words, or why they are none.
@@ -415,7 +396,7 @@ fn action_on_men(command: &str, chosen: &ArgMatches<'_>) -> Action
 /// What is asked of a placement, or why there is none.
 fn action_of_men(
     is_index: bool,
-    placement: Result<Placement, MenFault>,
+    placement: Result<Placement, Option<PlacementFault>>,
     class: AskedClass,
 ) -> Action
     ensures { result ≡ action_of_men is_index placement class }
@@ -434,17 +415,6 @@ pub fn kind_of(word: Option<&str>) -> Kind
     match word {
         Some("wdl") => Kind::Wdl,
         _ => Kind::Dtz,
-    }
-}
-
-/// The form of a number.
-fn form_of(number: u64) -> DumpForm
-    ensures { result ≡ parsed_form number }
-{
-    if number == 1 {
-        DumpForm::Values
-    } else {
-        DumpForm::Runs
     }
 }
 

@@ -1,5 +1,5 @@
 //! Reads a whole dump from a device.
-ghost use Rattle.std.specs.Prelude.{◌≡◌, ℕ, ◌+◌, ◌*◌, ◌<◌, ◌≤◌, List, [], length, map, option_map, IfOk, IfSome, IsErrOf, IsTrue, OnOk};
+ghost use Rattle.std.specs.Prelude.{◌≡◌, ℕ, ◌+◌, ◌*◌, ◌<◌, ◌≤◌, List, [], length, map, IfOk, IfSome, IsErrOf, IsTrue, OnOk};
 ghost use Rattle.szg_io.specs.Device.{HasFailed};
 ghost use Rattle.szg_io.specs.Moved.{Takes};
 ghost use Rattle.szg_file.specs.Held.{part_of};
@@ -9,7 +9,6 @@ ghost use Rattle.szg_build.specs.Held.{held_of};
 ghost use Rattle.szg_build.specs.Lacks.{LacksLines, StopsShort};
 ghost use Rattle.szg_build.specs.Lines.{verdict};
 ghost use Rattle.szg_build.specs.Packed.{gathered_dump, ArePacked};
-ghost use Rattle.szg_build.specs.Plan.{sizes_if_valid};
 ghost use Rattle.szg_build.specs.Reading.{ReadsLines};
 ghost use Rattle.szg_build.specs.Shown.{dump_seen, form_of, FollowsLines, TookLines};
 ghost use Rattle.szg_build.specs.Wholes.{dump_after_kind, dump_after_parts};
@@ -20,13 +19,12 @@ use crate::reading::gathering::{Gathered, Header, Subs, add_sub, list_dump};
 use crate::reading::incoming::Incoming;
 use crate::reading::line_parsing::{parse_form, parse_kind, parse_last_bytes, parse_material};
 use crate::reading::lines::read_parsed;
-use crate::reading::packed_dump::{PackedDump, packed_dump};
+use crate::reading::packed_dump::PackedDump;
 use crate::reading::read_parts;
 use crate::reading::subreading::read_sub;
 use crate::table::parts_fit;
-use arrayvec::ArrayVec;
 use std::alloc::Global;
-use szg_file::{PartBytes, subtable_sizes};
+use szg_file::subtable_sizes;
 use szg_io::Input;
 use szg_subtable::{Choice, Packing, Unwatched, Watcher};
 use szg_values::{Kind, Material};
@@ -38,17 +36,8 @@ const LISTED: Choice = Choice::Fixed(Packing {
     rounds: 0,
 });
 
-/// Returns the sizes of the subtables. None if the parts are not valid.
-fn sizes_of(material: &Material, kind: Kind, parts: &[PartBytes]) -> Option<ArrayVec<u64, 8>>
-    ensures { option_map (λ list. list.items) result ≡ sizes_if_valid material.now kind (map part_of parts.now) }
-{
-    parts_fit(parts);
-    subtable_sizes(material, kind, parts)
-}
-
 /// Reads the subtables after the header lines.
 fn read_subs<R: Input, V: Watcher>(
-    alloc: Global,
     form: u8,
     header: Header,
     choice: Choice,
@@ -62,7 +51,10 @@ fn read_subs<R: Input, V: Watcher>(
     ensures packed { IfOk result (λ gathered. ArePacked gathered.header.kind choice gathered.subs) }
     ensures memory { IsErrOf result DumpReadFault.Memory → LacksLines (dump_after_parts (form_of form) header.material header.kind header.last (map part_of header.parts.items)) 0 incoming.old R.Input input.old input.new }
 {
-    let sizes = sizes_of(&header.material, header.kind, &header.parts);
+    let alloc = incoming.alloc;
+    let parts = header.parts.as_slice();
+    parts_fit(parts);
+    let sizes = subtable_sizes(&header.material, header.kind, parts);
     let places = places(&header.material, header.kind);
     let count = places.len();
     let mut subs = Subs {
@@ -74,7 +66,6 @@ fn read_subs<R: Input, V: Watcher>(
     'each: for s in 0..count {
         let following = 2 * (count - 1 - s) as u64;
         let sub = read_sub(
-            alloc,
             form,
             header.kind,
             &sizes,
@@ -91,7 +82,6 @@ fn read_subs<R: Input, V: Watcher>(
 
 /// Reads what comes after the kind: the last bytes, the parts and the subtables.
 fn read_after_kind<R: Input, V: Watcher>(
-    alloc: Global,
     form: u8,
     material: Material,
     kind: Kind,
@@ -108,20 +98,19 @@ fn read_after_kind<R: Input, V: Watcher>(
 {
     let due = 2 * places(&material, kind).len() as u64;
     let last = read_parsed(parse_last_bytes, due + 1, input, incoming)?;
-    let parts = read_parts(alloc, &material, due, input, incoming)?;
+    let parts = read_parts(&material, due, input, incoming)?;
     let header = Header {
         material,
         kind,
         parts,
         last,
     };
-    read_subs(alloc, form, header, choice, input, incoming, watcher)
+    read_subs(form, header, choice, input, incoming, watcher)
 }
 
 /// Reads the whole text. Packs subtables by `choice` while it reads, up to the first that `add_sub` does not pack. The
 /// values of that one and of all later ones are listed.
 fn read_gathered<R: Input, V: Watcher>(
-    alloc: Global,
     choice: Choice,
     input: &mut R,
     incoming: &mut Incoming,
@@ -136,24 +125,18 @@ fn read_gathered<R: Input, V: Watcher>(
     let form = read_parsed(parse_form, 4, input, incoming)?;
     let material = read_parsed(parse_material, 3, input, incoming)?;
     let kind = read_parsed(parse_kind, 2, input, incoming)?;
-    read_after_kind(
-        alloc, form, material, kind, choice, input, incoming, watcher,
-    )
+    read_after_kind(form, material, kind, choice, input, incoming, watcher)
 }
 
 /// Reads the whole text and lists all values.
-fn read_text<R: Input>(
-    alloc: Global,
-    input: &mut R,
-    incoming: &mut Incoming,
-) -> Result<Dump, DumpReadFault>
+fn read_text<R: Input>(input: &mut R, incoming: &mut Incoming) -> Result<Dump, DumpReadFault>
     requires { held_of incoming.old ≡ [] }
     ensures lines { ReadsLines dump_format dump_seen incoming.old incoming.new R.Input input.old input.new result }
     ensures held { OnOk result (held_of incoming.new ≡ []) }
     ensures memory { IsErrOf result DumpReadFault.Memory → LacksLines dump_format 0 incoming.old R.Input input.old input.new }
 {
-    let gathered = read_gathered(alloc, LISTED, input, incoming, &mut Unwatched)?;
-    let dump = list_dump(alloc, gathered)?;
+    let gathered = read_gathered(LISTED, input, incoming, &mut Unwatched)?;
+    let dump = list_dump(incoming.alloc, gathered)?;
     Ok(dump)
 }
 
@@ -178,8 +161,8 @@ pub fn read_dump<R: Input>(alloc: Global, input: &mut R) -> Result<Dump, DumpRea
     ensures device { IsErrOf result DumpReadFault.Device → HasFailed (R.failures input.old) (R.failures input.new) (R.interrupted input.new) × IsTrue (R.may_fail input.old) }
     ensures quiet { (IsErrOf result DumpReadFault.Device → ⊥) → R.failures input.new ≡ R.failures input.old }
 {
-    let mut incoming = Incoming::new();
-    read_text(alloc, input, &mut incoming)
+    let mut incoming = Incoming::new(alloc);
+    read_text(input, &mut incoming)
 }
 
 /// Reads the text of a dump as `read_dump` does, and packs its subtables by `choice` while it reads. `watcher` sees
@@ -201,9 +184,9 @@ pub fn read_packed<R: Input, V: Watcher>(
     ensures device { IsErrOf result DumpReadFault.Device → HasFailed (R.failures input.old) (R.failures input.new) (R.interrupted input.new) × IsTrue (R.may_fail input.old) }
     ensures quiet { (IsErrOf result DumpReadFault.Device → ⊥) → R.failures input.new ≡ R.failures input.old }
 {
-    let mut incoming = Incoming::new();
-    match read_gathered(alloc, choice, input, &mut incoming, watcher) {
-        Ok(gathered) => Ok(packed_dump(gathered, choice)),
+    let mut incoming = Incoming::new(alloc);
+    match read_gathered(choice, input, &mut incoming, watcher) {
+        Ok(gathered) => Ok(PackedDump { gathered, choice }),
         Err(fault) => {
             watcher.end();
             Err(fault)

@@ -2,6 +2,7 @@
 ghost use Rattle.std.specs.Prelude.{◌≤◌};
 
 use arrayvec::ArrayVec;
+use std::alloc::Global;
 use szg_io::{DeviceFault, Input, take_once};
 
 /// The size of the buffer.
@@ -10,6 +11,8 @@ const ROOM: usize = 4096;
 /// The state of a reader of lines.
 #[derive(Drop)]
 pub(crate) struct Incoming {
+    /// What the lists that are read are allocated with.
+    pub alloc: Global,
     /// The number of lines read; it saturates at the greatest 64-bit value.
     pub line: u64,
     /// The index in `bytes` at which the bytes read ahead begin.
@@ -29,11 +32,12 @@ impl Incoming {
     ghost use Rattle.szg_build.specs.Held.{held_of};
 
     /// Creates the state before the first line.
-    pub(crate) fn new() -> Incoming
+    pub(crate) fn new(alloc: Global) -> Incoming
         ensures line { result.line ≡ 0 }
         ensures held { held_of result ≡ [] }
     {
         Incoming {
+            alloc,
             line: 0,
             from: 0,
             to: 0,

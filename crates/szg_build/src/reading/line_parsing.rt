@@ -1,7 +1,7 @@
 //! Parses the lines of a dump.
-ghost use Rattle.std.specs.Prelude.{◌≡◌, ◌≤◌, ◌<◌, ◌^◌, ℕ, List, [], length, IfOk, IfSome};
+ghost use Rattle.std.specs.Prelude.{◌≤◌, ◌<◌, [], List, length, IfOk};
 ghost use Rattle.szg_build.specs.Fronts.{IsFront, lines_after, sub_line};
-ghost use Rattle.szg_build.specs.Grammar.{Word, version_line, name_line, kind_line, end_line, part_line, number_in, number_line, positive, greatest_count, run_line};
+ghost use Rattle.szg_build.specs.Grammar.{Word, version_line, name_line, kind_line, end_line, part_line, number_line, run_line};
 ghost use Rattle.szg_build.specs.Lines.{words_of};
 ghost use Rattle.szg_build.specs.Reading.{IsParsed};
 ghost use Rattle.szg_build.specs.Shown.{form_of};
@@ -121,21 +121,8 @@ pub(crate) fn parse_part(
     requires short { length text.now ≤ 80 }
     ensures { IsParsed (lines_after (part_line number) (words_of text.now)) (λ part. record { order = part.0.items; men = part.1.items }) result }
 {
-    let front = [
-        b'p',
-        b'a',
-        b'r',
-        b't',
-        b' ',
-        b'a' + number,
-        b' ',
-        b'o',
-        b'r',
-        b'd',
-        b'e',
-        b'r',
-        b' ',
-    ];
+    let mut front = *b"part a order ";
+    front[5] = b'a' + number;
     let Some((order_word, men_word)) = two_words(&front, b"men ", text) else {
         return Err(DumpFault::Field);
     };
@@ -158,9 +145,12 @@ pub(crate) fn parse_run(left: u64, text: &[u8]) -> Result<(u64, u16), DumpFault>
     let Some((count_word, value_word)) = two_words(b"", b"", text) else {
         return Err(DumpFault::Field);
     };
-    let Some(count) = positive_of(count_word) else {
+    let Some(count) = number_of(count_word, GREATEST_COUNT) else {
         return Err(DumpFault::Number);
     };
+    if count == 0 {
+        return Err(DumpFault::Number);
+    }
     let Some(value) = number_of(value_word, GREATEST_ITEM) else {
         return Err(DumpFault::Number);
     };
@@ -168,18 +158,4 @@ pub(crate) fn parse_run(left: u64, text: &[u8]) -> Result<(u64, u16), DumpFault>
         return Err(DumpFault::Run);
     }
     Ok((count, value as u16))
-}
-
-/// Parses a count that is not 0.
-fn positive_of(word: &[u8]) -> Option<u64>
-    ensures value { result ≡ positive (number_in greatest_count word.now) }
-    ensures some { IfSome result (λ count. 0 < count) }
-{
-    let Some(count) = number_of(word, GREATEST_COUNT) else {
-        return None;
-    };
-    if count == 0 {
-        return None;
-    }
-    Some(count)
 }

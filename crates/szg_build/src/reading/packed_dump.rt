@@ -3,10 +3,10 @@ ghost use Rattle.std.specs.Prelude.{◌≡◌, ◌⊎◌, map, true, IfOk, Err, 
 ghost use Rattle.std.specs.List.{AllByRecursion};
 ghost use Rattle.szg_file.specs.Accepted.{IsAccepted};
 ghost use Rattle.szg_build.specs.Chosen.{numbers_in, plan_by};
-ghost use Rattle.szg_build.specs.Packed.{gathered_dump, lists_held, packed_values, AreFlagsOf, ArePacked, IsPackedSub, IsSettled};
+ghost use Rattle.szg_build.specs.Packed.{gathered_dump, packed_values, AreFlagsOf, ArePacked, IsPackedSub, IsSettled};
 ghost use Rattle.szg_build.specs.Plan.{build_fault};
 ghost use Rattle.szg_build.specs.Shown.{plan_seen};
-ghost use Rattle.szg_build.specs.Tabling.{IsBuiltBy, IsChoiceOf, HasNoFault};
+ghost use Rattle.szg_build.specs.Tabling.{IsBuiltBy, HasNoFault};
 ghost use Rattle.szg_build.specs.declared.BuildFault.{BuildFault};
 ghost use Rattle.szg_subtable.specs.declared.building.Choice.{Choice};
 
@@ -25,8 +25,8 @@ use szg_subtable::{Choice, Packing, Watcher};
 /// The content of a dump, whose subtables were packed while it was read.
 #[derive(Drop)]
 pub struct PackedDump {
-    gathered: Gathered,
-    choice: Choice,
+    pub(crate) gathered: Gathered,
+    pub(crate) choice: Choice,
 }
 
 impl Model for PackedDump {
@@ -38,14 +38,6 @@ impl Model for PackedDump {
     ghost view = { λ packed. record { dump = gathered_dump packed.gathered; choice = packed.choice } };
 
     ghost invariant = { λ packed. ArePacked packed.gathered.header.kind packed.choice packed.gathered.subs };
-}
-
-/// Wraps what was read.
-pub(crate) fn packed_dump(gathered: Gathered, choice: Choice) -> PackedDump
-    requires { ArePacked gathered.header.kind choice gathered.subs }
-    ensures { result ≡ record { dump = gathered_dump gathered; choice = choice } }
-{
-    PackedDump { gathered, choice }
 }
 
 impl PackedDump {
@@ -186,29 +178,6 @@ fn lend<'a>(alloc: Global, lists: &'a [Vec<u16>]) -> Result<Vec<&'a [u16]>, Allo
     Ok(slices)
 }
 
-/// Lists all values and builds the table from the lists. Errors: the first fault of the plan and the lists, or `Memory`
-/// if memory was refused.
-fn build_lists<V: Watcher>(
-    alloc: Global,
-    plan: &Plan,
-    choice: Choice,
-    packed: &[PackedSub],
-    rest: Vec<Vec<u16>>,
-    watcher: &mut V,
-) -> Result<Table, BuildFault>
-    requires choice { IsChoiceOf (plan_seen plan.now) choice }
-    requires packed { AllByRecursion (IsPackedSub plan.now.kind choice) packed.now }
-    ensures refused { (fault : BuildFault) → result ≡ Err fault → (fault ≡ BuildFault.Memory) ⊎ (build_fault (plan_seen plan.now) (lists_held plan.now.kind packed.now (map (λ list. list.items) rest.items)) ≡ Some fault) }
-    ensures no_fault { IfOk result (λ _. build_fault (plan_seen plan.now) (lists_held plan.now.kind packed.now (map (λ list. list.items) rest.items)) ≡ None) }
-    ensures built { IfOk result (λ t. IsBuiltBy choice (plan_seen plan.now) (lists_held plan.now.kind packed.now (map (λ list. list.items) rest.items)) t.contents) }
-    ensures accepted { IfOk result (λ t. IsAccepted t.contents t.filled) }
-    ensures padding { IfOk result (λ t. AllByRecursion (λ byte. byte ≡ 0) t.filled) }
-{
-    let lists = list_all(alloc, plan.kind, packed, rest)?;
-    let lent = lend(alloc, &lists)?;
-    build_by(alloc, choice, plan, &lent, watcher)
-}
-
 /// Returns the numbers of a choice. For a small table, whose packing does not use them, returns numbers that pass the
 /// checks of a plan.
 fn numbers_of(choice: Choice) -> Packing
@@ -257,5 +226,7 @@ fn build_gathered<V: Watcher>(
     if rest.is_empty() && are_complete(&plan, &subs.packed) {
         return Ok(assemble(alloc, &plan, choice, subs.packed, watcher)?);
     }
-    build_lists(alloc, &plan, choice, &subs.packed, rest, watcher)
+    let lists = list_all(alloc, plan.kind, &subs.packed, rest)?;
+    let lent = lend(alloc, &lists)?;
+    build_by(alloc, choice, &plan, &lent, watcher)
 }

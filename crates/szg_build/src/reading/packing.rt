@@ -14,7 +14,7 @@ use crate::subtables::{CONSTANT, build_sub};
 use std::alloc::{AllocError, Global};
 use szg_block::{Sound, Sub};
 use szg_file::constant_value;
-use szg_subtable::{Choice, Packing, Watcher, count_different};
+use szg_subtable::{Choice, Watcher, count_different};
 use szg_values::Kind;
 
 /// The sizes of subtables are below this number; a list of this length or more is not packed.
@@ -60,13 +60,9 @@ fn is_packed_early(choice: Choice, count: usize) -> bool
     ensures { result ≡ true → IsInBounds choice }
 {
     match choice {
-        Choice::Fixed(
-            Packing {
-                block_bits,
-                span_bits,
-                rounds,
-            },
-        ) => { are_bits_valid(block_bits, span_bits) && rounds <= MAX_ROUNDS }
+        Choice::Fixed(packing) => {
+            are_bits_valid(packing.block_bits, packing.span_bits) && packing.rounds <= MAX_ROUNDS
+        }
         Choice::Small => count != 1,
     }
 }
@@ -83,18 +79,9 @@ fn run_byte(kind: Kind, value: u16, count: u64) -> Option<u8>
         return None;
     }
     match kind {
-        Kind::Wdl => {
-            if value > 4 {
-                return None;
-            }
-            Some(value as u8)
-        }
-        Kind::Dtz => {
-            if value != 0 {
-                return None;
-            }
-            Some(0)
-        }
+        Kind::Wdl if value <= 4 => Some(value as u8),
+        Kind::Dtz if value == 0 => Some(0),
+        _ => None,
     }
 }
 

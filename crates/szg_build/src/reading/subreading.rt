@@ -17,7 +17,6 @@ use crate::reading::lines::{read_number, read_parsed};
 use crate::reading::values::Values;
 use crate::reading::{read_map, read_values};
 use arrayvec::ArrayVec;
-use std::alloc::{AllocError, Global};
 use szg_file::Map;
 use szg_io::Input;
 use szg_values::Kind;
@@ -78,7 +77,6 @@ fn may_follow(form: u8, sizes: &Option<ArrayVec<u64, 8>>) -> bool
 
 /// Reads the rest of a subtable, beginning with its line `values`. `flags` and `map` were read before.
 fn read_counted<R: Input>(
-    alloc: Global,
     form: u8,
     sizes: &Option<ArrayVec<u64, 8>>,
     s: usize,
@@ -100,13 +98,12 @@ fn read_counted<R: Input>(
     if !may_have(form, sizes, s, count) {
         return Err(DumpReadFault::Build(BuildFault::Length(s)));
     }
-    let values = read_values(alloc, form, count, following, input, incoming)?;
+    let values = read_values(form, count, following, input, incoming)?;
     Ok(SubText { flags, map, values })
 }
 
 /// Reads the rest of a subtable, beginning after the line that names it.
 fn read_fields<R: Input>(
-    alloc: Global,
     form: u8,
     kind: Kind,
     sizes: &Option<ArrayVec<u64, 8>>,
@@ -123,15 +120,12 @@ fn read_fields<R: Input>(
     ensures memory { IsErrOf result DumpReadFault.Memory → LacksLines (fields_format (form_of form) kind (option_map (λ list. list.items) sizes.now) s) following incoming.old R.Input input.old input.new }
 {
     let flags = read_flags(kind, following + 1, input, incoming)?;
-    let map = read_map(alloc, flags, following + 1, input, incoming)?;
-    read_counted(
-        alloc, form, sizes, s, flags, map, following, input, incoming,
-    )
+    let map = read_map(flags, following + 1, input, incoming)?;
+    read_counted(form, sizes, s, flags, map, following, input, incoming)
 }
 
 /// Reads subtable `s`, beginning with the line that names its part and side.
 pub(crate) fn read_sub<R: Input>(
-    alloc: Global,
     form: u8,
     kind: Kind,
     sizes: &Option<ArrayVec<u64, 8>>,
@@ -159,5 +153,5 @@ pub(crate) fn read_sub<R: Input>(
     if !may_follow(form, sizes) {
         return Err(DumpReadFault::Build(BuildFault::Order));
     }
-    read_fields(alloc, form, kind, sizes, s, following, input, incoming)
+    read_fields(form, kind, sizes, s, following, input, incoming)
 }

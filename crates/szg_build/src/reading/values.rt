@@ -1,8 +1,8 @@
 //! The values of a subtable as they are read from a dump. In form 2, values that are all equal are not listed.
-ghost use Rattle.std.specs.Prelude.{◌≡◌, ◌+◌, ◌++◌, ◌<◌, ◌^◌, length, replicate, IfOk, OnOk};
+ghost use Rattle.std.specs.Prelude.{◌≡◌, ◌+◌, ◌++◌, ◌<◌, ◌^◌, length, replicate, IfOk};
 ghost use Rattle.szg_build.specs.Packed.{values_held};
 
-use std::alloc::{AllocError, AllocFailed, Global};
+use std::alloc::{AllocError, Global};
 
 /// The values of a subtable.
 #[derive(Drop)]
@@ -13,16 +13,6 @@ pub(crate) enum Values {
     Listed(Vec<u16>),
 }
 
-/// Appends a run of equal values to a list.
-fn push_run(list: &mut Vec<u16>, size: u64, value: u16) -> Result<(), AllocFailed<u16>>
-    ensures { OnOk result (list.new.items ≡ list.old.items ++ replicate size value) }
-{
-    'values: for _value in 0..size {
-        list.push(value)?;
-    }
-    Ok(())
-}
-
 impl Values {
     /// Appends a run of equal values. The values become a list only when a second, different value is appended.
     pub(crate) fn with_run(self, alloc: Global, size: u64, value: u16) -> Result<Values, AllocError>
@@ -31,7 +21,7 @@ impl Values {
     {
         match self {
             Values::Listed(mut list) => {
-                push_run(&mut list, size, value)?;
+                list.resize(list.len() + size as usize, value)?;
                 Ok(Values::Listed(list))
             }
             Values::Run {
@@ -48,7 +38,7 @@ impl Values {
                     });
                 }
                 let mut list = vec![in alloc; first; count as usize]?;
-                push_run(&mut list, size, value)?;
+                list.resize((count + size) as usize, value)?;
                 Ok(Values::Listed(list))
             }
         }

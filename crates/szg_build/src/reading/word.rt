@@ -1,5 +1,5 @@
 //! Parses the words of a line.
-ghost use Rattle.std.specs.Prelude.{◌≡◌, ◌==◌, ◌≤◌, ◌^◌, ◌<◌, ℕ, List, [], ◌∷◌, ◌++◌, false, length, bytes_eq, IfSome, MatchOption};
+ghost use Rattle.std.specs.Prelude.{◌≡◌, ◌==◌, ◌≤◌, ◌<◌, ℕ, List, ◌∷◌, ◌++◌, length, bytes_eq, IfSome, MatchOption};
 ghost use Rattle.szg_build.specs.Fronts.{IsWord};
 ghost use Rattle.hex.specs.Hex.{encode_lower};
 ghost use Rattle.szg_build.specs.Grammar.{bytes_in, number_in};

@@ -1,7 +1,5 @@
 //! The values of a subtable in memory, a block at a time.
-ghost use Rattle.std.specs.Prelude.{◌≡◌, ◌+◌, ◌*◌, ◌<◌, ◌≤◌, ◌^◌, [], ◌++◌, length, true, false, IfOk};
-ghost use Rattle.szg_block.specs.Block.{block_at};
-ghost use Rattle.szg_block.specs.Subtable.{packed_of, IsShaped, IsSoundOver};
+ghost use Rattle.std.specs.Prelude.{◌≡◌, ◌+◌, ◌*◌, ◌<◌, [], ◌++◌, true, false, IfOk};
 ghost use Rattle.szg_build.specs.BlockValues.{blocks_of, left_of, IsAtBlock};
 
 use std::alloc::AllocError;
@@ -40,12 +38,12 @@ fn decode_at(
 /// The blocks of a subtable that are still to be decoded.
 #[derive(Drop)]
 pub struct BlockValues<'a> {
-    sub: &'a Sub,
-    size: u64,
+    pub(crate) sub: &'a Sub,
+    pub(crate) size: u64,
     // the number of the next block
-    next: u32,
+    pub(crate) next: u32,
     // the number of values before it
-    before: u64,
+    pub(crate) before: u64,
 }
 
 impl<'a> Model for BlockValues<'a> {
@@ -72,19 +70,5 @@ impl<'a> BlockValues<'a> {
         self.before = decode_at(self.sub, self.size, self.next, self.before, values)?;
         self.next += 1;
         Ok(true)
-    }
-}
-
-/// Returns all blocks of a sound subtable that is not constant, still to be decoded.
-pub(crate) fn blocks_from(sub: &Sub, size: u64) -> BlockValues<'_>
-    requires shaped { IsShaped sub.now size }
-    requires sound { IsSoundOver sub.now (packed_of sub.now) size }
-    ensures { result ≡ left_of sub.now size 0 }
-{
-    BlockValues {
-        sub,
-        size,
-        next: 0,
-        before: 0,
     }
 }

@@ -9,14 +9,14 @@ ghost use Rattle.szg_build.specs.Built.{IsDumpOf};
 ghost use Rattle.szg_build.specs.Dump.{Dump};
 ghost use Rattle.szg_build.specs.Shown.{form_of};
 ghost use Rattle.szg_build.specs.Text.{dump_text};
-ghost use Rattle.szg_build.specs.declared.writing.dumping.StreamFault.TheVariants.{Output};
+ghost use Rattle.szg_build.specs.declared.writing.dumping.StreamFault.TheVariants.{Memory, Output};
 
 use crate::writing::streaming::{begin_dump, end_dump};
-use std::alloc::Global;
+use std::alloc::{AllocError, Global};
 use szg_file::{ReadFault, TableIndex, WriteFault, scan};
 use szg_io::{Input, Output};
 
-/// Why a dump was not written whole while its file was read. A beginning of its text may have been written.
+/// Why a dump was not written whole. A beginning of its text may have been written.
 #[derive(Clone, Copy, Debug, PartialEq, Eq, Drop)]
 pub enum StreamFault {
     /// The file is refused, or its index or its last bytes are not those passed to `stream_dump`.
@@ -34,6 +34,14 @@ impl From<WriteFault> for StreamFault {
 
     fn from(_fault: WriteFault) -> StreamFault {
         StreamFault::Output
+    }
+}
+
+impl From<AllocError> for StreamFault {
+    ghost from_gives = { λ _ fault. fault ≡ Memory };
+
+    fn from(_failed: AllocError) -> StreamFault {
+        StreamFault::Memory
     }
 }
 

@@ -6,22 +6,25 @@ use arrayvec::ArrayVec;
 use szg_file::WriteFault;
 use szg_io::{Output, give_whole};
 
+/// Nothing, or why a text was not written whole.
+pub(crate) type Written = Result<(), WriteFault>;
+
 /// The state of a writer of text.
 #[derive(Drop)]
-pub(crate) struct OutgoingText {
+pub(crate) struct Outgoing {
     /// The number of bytes written; it saturates at the greatest 64-bit value.
     pub out: u64,
     /// The buffered bytes, which come after the written ones.
     pub held: ArrayVec<u8, 4096>,
 }
 
-impl OutgoingText {
+impl Outgoing {
     /// Creates the state before the first byte.
-    pub(crate) fn new() -> OutgoingText
+    pub(crate) fn new() -> Outgoing
         ensures out { result.out ≡ 0 }
         ensures held { result.held.items ≡ [] }
     {
-        OutgoingText {
+        Outgoing {
             out: 0,
             held: ArrayVec::new(),
         }
@@ -29,39 +32,32 @@ impl OutgoingText {
 }
 
 /// Writes the buffered bytes.
-pub(crate) fn flush<W: Output>(
-    output: &mut W,
-    outgoing: &mut OutgoingText,
-) -> Result<(), WriteFault>
-    ensures none { Writing [] outgoing.old outgoing.new W.Output output.old output.new result }
-    ensures held { OnOk result (outgoing.new.held.items ≡ []) }
+pub(crate) fn flush<W: Output>(output: &mut W, text: &mut Outgoing) -> Written
+    ensures none { Writing [] text.old text.new W.Output output.old output.new result }
+    ensures held { OnOk result (text.new.held.items ≡ []) }
 {
-    let chunk = outgoing.held.as_slice();
+    let chunk = text.held.as_slice();
     match give_whole(output, chunk) {
         Ok(()) => {
-            outgoing.out = outgoing.out.saturating_add(chunk.len() as u64);
-            outgoing.held.clear();
+            text.out = text.out.saturating_add(chunk.len() as u64);
+            text.held.clear();
             Ok(())
         }
         Err(n) => Err(WriteFault {
-            out: outgoing.out.saturating_add(n as u64),
+            out: text.out.saturating_add(n as u64),
         }),
     }
 }
 
 /// Appends `chunk`, at most 4,096 bytes, to the buffer. The buffer is written first only if `chunk` does not fit.
-pub(crate) fn put<W: Output>(
-    chunk: &[u8],
-    output: &mut W,
-    outgoing: &mut OutgoingText,
-) -> Result<(), WriteFault>
+pub(crate) fn put<W: Output>(chunk: &[u8], output: &mut W, text: &mut Outgoing) -> Written
     requires { length chunk.now ≤ 4096 }
-    ensures { Writing chunk.now outgoing.old outgoing.new W.Output output.old output.new result }
+    ensures { Writing chunk.now text.old text.new W.Output output.old output.new result }
 {
-    if outgoing.held.len() + chunk.len() > 4096 {
-        flush(output, outgoing)?;
+    if text.held.len() + chunk.len() > 4096 {
+        flush(output, text)?;
     }
-    let Ok(()) = outgoing.held.try_extend_from_slice(chunk) else {
+    let Ok(()) = text.held.try_extend_from_slice(chunk) else {
         unreachable!()
     };
     Ok(())

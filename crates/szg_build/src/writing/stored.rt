@@ -3,7 +3,7 @@ ghost use Rattle.std.specs.Prelude.{◌≡◌, None, IsSomeAnd, MatchOption};
 ghost use Rattle.szg_file.specs.Values.{subtable_at, values_of};
 ghost use Rattle.szg_build.specs.Stored.{shown_values};
 
-use crate::writing::block_values::{BlockValues, blocks_from};
+use crate::writing::block_values::BlockValues;
 use szg_block::Sub;
 use szg_file::typed::table_fits;
 use szg_file::{Table, constant_value};
@@ -37,6 +37,14 @@ pub fn stored_values(table: &Table, part: u8, side: u8) -> Option<StoredValues<'
             value: constant_value(table.kind(), sub),
             count: size,
         }),
-        Sub::Pairs { .. } => Some(StoredValues::Blocks(blocks_from(sub, size))),
+        Sub::Pairs { .. } => {
+            let blocks = BlockValues {
+                sub,
+                size,
+                next: 0,
+                before: 0,
+            };
+            Some(StoredValues::Blocks(blocks))
+        }
     }
 }

@@ -11,12 +11,12 @@ ghost use Rattle.szg_build.specs.Writing.{Writing};
 
 use crate::places::places;
 use crate::writing::dump_sink::DumpSink;
-use crate::writing::outgoing::{OutgoingText, flush};
+use crate::writing::outgoing::{Outgoing, Written, flush};
 use crate::writing::{
     put_equal, put_flags_and_map, put_front, put_number, put_parts, put_subtable_id, run_length,
 };
-use szg_file::{SinkFault, TableIndex, ValueSink, WriteFault};
-use szg_io::Output;
+use szg_file::{TableIndex, ValueSink, WriteFault};
+use szg_io::{DeviceFault, Output};
 use szg_values::Kind;
 
 // ---- the lines before a subtable's values
@@ -42,17 +42,17 @@ fn put_flags_of<W: Output>(
     index: &TableIndex,
     s: usize,
     output: &mut W,
-    outgoing: &mut OutgoingText,
-) -> Result<(), WriteFault>
+    text: &mut Outgoing,
+) -> Written
     requires { s < length (heads_of index.now) }
-    ensures written { OnOk result (Writing {X = Unit {0}} (lines_text (flags_lines index.now.kind (sub_of (get_or (heads_of index.now) s no_head)))) outgoing.old outgoing.new W.Output output.old output.new (Ok tt)) }
+    ensures written { OnOk result (Writing {X = Unit {0}} (lines_text (flags_lines index.now.kind (sub_of (get_or (heads_of index.now) s no_head)))) text.old text.new W.Output output.old output.new (Ok tt)) }
     ensures failed { OnErr result (HasFailed (W.failures output.old) (W.failures output.new) (W.interrupted output.new)) }
 {
     match index.kind() {
         Kind::Wdl => Ok(()),
         Kind::Dtz => {
             let flags = index.flags()[s] % 32;
-            put_flags_and_map(flags, &index.maps()[s], output, outgoing)
+            put_flags_and_map(flags, &index.maps()[s], output, text)
         }
     }
 }
@@ -74,7 +74,7 @@ pub(crate) fn begin_dump<'a, W: Output>(
     ensures failed { OnErr result (HasFailed (W.failures output.old) (W.failures output.new) (W.interrupted output.new)) }
     ensures quiet { OnOk result (W.failures output.new ≡ W.failures output.old) }
 {
-    let mut text = OutgoingText::new();
+    let mut text = Outgoing::new();
     let material = index.material();
     put_front(form, material, index.kind(), last, output, &mut text)?;
     put_parts(material, index.parts(), output, &mut text)?;
@@ -91,7 +91,7 @@ pub(crate) fn begin_dump<'a, W: Output>(
 }
 
 /// Writes the lines of the current run, and then the lines before the values of the next subtable.
-fn begin_sub<W: Output>(sink: &mut DumpSink<'_>, output: &mut W) -> Result<(), WriteFault>
+fn begin_sub<W: Output>(sink: &mut DumpSink<'_>, output: &mut W) -> Written
     requires whole { sink.old.left ≡ 0 }
     requires there { sink.old.next < head_count sink.old.index.now }
     ensures goes { OnOk result (Goes W.Output [] sink.old output.old sink.new output.new) }
@@ -130,12 +130,7 @@ fn find_room<W: Output>(sink: &mut DumpSink<'_>, output: &mut W) -> Result<bool,
 
 /// Adds `count` equal values, all of which the current subtable still needs. If they do not lengthen the current run,
 /// its lines are written first.
-fn add_run<W: Output>(
-    sink: &mut DumpSink<'_>,
-    value: u16,
-    count: u64,
-    output: &mut W,
-) -> Result<(), WriteFault>
+fn add_run<W: Output>(sink: &mut DumpSink<'_>, value: u16, count: u64, output: &mut W) -> Written
     requires some { 0 < count }
     requires within { count ≤ sink.old.left }
     ensures goes { OnOk result (Goes W.Output (replicate count value) sink.old output.old sink.new output.new) }
@@ -159,7 +154,7 @@ pub(crate) fn add_same<W: Output>(
     value: u16,
     count: u64,
     output: &mut W,
-) -> Result<(), WriteFault>
+) -> Written
     ensures goes { OnOk result (Goes W.Output (replicate count value) sink.old output.old sink.new output.new) }
     ensures failed { OnErr result (HasFailed (W.failures output.old) (W.failures output.new) (W.interrupted output.new)) }
 {
@@ -180,7 +175,7 @@ pub(crate) fn add_values<W: Output>(
     sink: &mut DumpSink<'_>,
     values: &[u16],
     output: &mut W,
-) -> Result<(), WriteFault>
+) -> Written
     ensures goes { OnOk result (Goes W.Output values.now sink.old output.old sink.new output.new) }
     ensures failed { OnErr result (HasFailed (W.failures output.old) (W.failures output.new) (W.interrupted output.new)) }
 {
@@ -194,7 +189,7 @@ pub(crate) fn add_values<W: Output>(
 }
 
 /// Writes the rest of the dump after the last values, and the bytes that are still buffered.
-pub(crate) fn end_dump<W: Output>(sink: &mut DumpSink<'_>, output: &mut W) -> Result<(), WriteFault>
+pub(crate) fn end_dump<W: Output>(sink: &mut DumpSink<'_>, output: &mut W) -> Written
     ensures given { OnOk result (Gives W.Output output.old output.new (sink.old.text.held.items ++ text_left sink.old []) 0) }
     ensures failed { OnErr result (HasFailed (W.failures output.old) (W.failures output.new) (W.interrupted output.new)) }
 {
@@ -219,18 +214,18 @@ impl<W: Output> ValueSink<W> for DumpSink<'_> {
         true
     }
 
-    fn put(&mut self, values: &[u16], out: &mut W) -> Result<(), SinkFault> {
+    fn put(&mut self, values: &[u16], out: &mut W) -> Result<(), DeviceFault> {
         let Ok(()) = add_values(self, values, out) else {
             self.failed = true;
-            return Err(SinkFault);
+            return Err(DeviceFault);
         };
         Ok(())
     }
 
-    fn put_same(&mut self, value: u16, count: u64, out: &mut W) -> Result<(), SinkFault> {
+    fn put_same(&mut self, value: u16, count: u64, out: &mut W) -> Result<(), DeviceFault> {
         let Ok(()) = add_same(self, value, count, out) else {
             self.failed = true;
-            return Err(SinkFault);
+            return Err(DeviceFault);
         };
         Ok(())
     }

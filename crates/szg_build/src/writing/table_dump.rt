@@ -1,5 +1,5 @@
 //! Writes the dump of a table in memory, a block's values at a time.
-ghost use Rattle.std.specs.Prelude.{◌≡◌, ℕ, ◌⊎◌, ◌++◌, List, IfOk, IsErrOf, OnOk};
+ghost use Rattle.std.specs.Prelude.{◌≡◌, ℕ, ◌⊎◌, ◌++◌, List, IfErr, IsErrOf, OnOk};
 ghost use Rattle.szg_io.specs.Device.{HasFailed};
 ghost use Rattle.szg_io.specs.Moved.{Gives};
 ghost use Rattle.szg_build.specs.Built.{IsDumpOf};
@@ -8,41 +8,16 @@ ghost use Rattle.szg_build.specs.Shown.{form_of};
 ghost use Rattle.szg_build.specs.Stored.{all_values, shown_values};
 ghost use Rattle.szg_build.specs.Streaming.{Goes};
 ghost use Rattle.szg_build.specs.Text.{dump_text};
-ghost use Rattle.szg_build.specs.declared.writing.table_dump.DumpWriteFault.TheVariants.{Memory, Output as Failed};
 
 use crate::copies::table_subtable_ids;
 use crate::writing::block_values::BlockValues;
 use crate::writing::dump_sink::DumpSink;
+use crate::writing::dumping::StreamFault;
 use crate::writing::stored::{StoredValues, stored_values};
 use crate::writing::streaming::{add_same, add_values, begin_dump, end_dump};
-use std::alloc::{AllocError, Global};
-use szg_file::{Table, WriteFault};
+use std::alloc::Global;
+use szg_file::Table;
 use szg_io::Output;
-
-/// Why a table's dump was not written whole. A beginning of its text may have been written.
-#[derive(Clone, Copy, Debug, PartialEq, Eq, Drop)]
-pub enum DumpWriteFault {
-    /// The writer failed.
-    Output,
-    /// Memory was refused.
-    Memory,
-}
-
-impl From<WriteFault> for DumpWriteFault {
-    ghost from_gives = { λ _ fault. fault ≡ Failed };
-
-    fn from(_fault: WriteFault) -> DumpWriteFault {
-        DumpWriteFault::Output
-    }
-}
-
-impl From<AllocError> for DumpWriteFault {
-    ghost from_gives = { λ _ fault. fault ≡ Memory };
-
-    fn from(_failed: AllocError) -> DumpWriteFault {
-        DumpWriteFault::Memory
-    }
-}
 
 /// Adds the values of blocks to the dump. Each block is decoded into `values`.
 fn put_blocks<W: Output>(
@@ -50,10 +25,11 @@ fn put_blocks<W: Output>(
     values: &mut Vec<u16>,
     sink: &mut DumpSink<'_>,
     output: &mut W,
-) -> Result<(), DumpWriteFault>
+) -> Result<(), StreamFault>
     ensures goes { OnOk result (Goes W.Output blocks.old.values sink.old output.old sink.new output.new) }
-    ensures memory { IsErrOf result DumpWriteFault.Memory → (done : List ℕ) × (rest : List ℕ) × (done ++ rest ≡ blocks.old.values) × Goes W.Output done sink.old output.old sink.new output.new }
-    ensures failed { IsErrOf result DumpWriteFault.Output → HasFailed (W.failures output.old) (W.failures output.new) (W.interrupted output.new) }
+    ensures memory { IsErrOf result StreamFault.Memory → (done : List ℕ) × (rest : List ℕ) × (done ++ rest ≡ blocks.old.values) × Goes W.Output done sink.old output.old sink.new output.new }
+    ensures failed { IsErrOf result StreamFault.Output → HasFailed (W.failures output.old) (W.failures output.new) (W.interrupted output.new) }
+    ensures faults { IfErr result (λ fault. (fault ≡ StreamFault.Output) ⊎ (fault ≡ StreamFault.Memory)) }
 {
     'each: while blocks.decode_next(values)? {
         add_values(sink, values, output)?;
@@ -67,10 +43,11 @@ fn put_stored<W: Output>(
     values: &mut Vec<u16>,
     sink: &mut DumpSink<'_>,
     output: &mut W,
-) -> Result<(), DumpWriteFault>
+) -> Result<(), StreamFault>
     ensures goes { OnOk result (Goes W.Output (shown_values stored.entry) sink.old output.old sink.new output.new) }
-    ensures memory { IsErrOf result DumpWriteFault.Memory → (done : List ℕ) × (rest : List ℕ) × (done ++ rest ≡ shown_values stored.entry) × Goes W.Output done sink.old output.old sink.new output.new }
-    ensures failed { IsErrOf result DumpWriteFault.Output → HasFailed (W.failures output.old) (W.failures output.new) (W.interrupted output.new) }
+    ensures memory { IsErrOf result StreamFault.Memory → (done : List ℕ) × (rest : List ℕ) × (done ++ rest ≡ shown_values stored.entry) × Goes W.Output done sink.old output.old sink.new output.new }
+    ensures failed { IsErrOf result StreamFault.Output → HasFailed (W.failures output.old) (W.failures output.new) (W.interrupted output.new) }
+    ensures faults { IfErr result (λ fault. (fault ≡ StreamFault.Output) ⊎ (fault ≡ StreamFault.Memory)) }
 {
     match stored {
         StoredValues::Same { value, count } => {
@@ -87,10 +64,11 @@ fn put_subtables<W: Output>(
     table: &Table,
     sink: &mut DumpSink<'_>,
     output: &mut W,
-) -> Result<(), DumpWriteFault>
+) -> Result<(), StreamFault>
     ensures goes { OnOk result (Goes W.Output (all_values table.now.contents) sink.old output.old sink.new output.new) }
-    ensures memory { IsErrOf result DumpWriteFault.Memory → (done : List ℕ) × (rest : List ℕ) × (done ++ rest ≡ all_values table.now.contents) × Goes W.Output done sink.old output.old sink.new output.new }
-    ensures failed { IsErrOf result DumpWriteFault.Output → HasFailed (W.failures output.old) (W.failures output.new) (W.interrupted output.new) }
+    ensures memory { IsErrOf result StreamFault.Memory → (done : List ℕ) × (rest : List ℕ) × (done ++ rest ≡ all_values table.now.contents) × Goes W.Output done sink.old output.old sink.new output.new }
+    ensures failed { IsErrOf result StreamFault.Output → HasFailed (W.failures output.old) (W.failures output.new) (W.interrupted output.new) }
+    ensures faults { IfErr result (λ fault. (fault ≡ StreamFault.Output) ⊎ (fault ≡ StreamFault.Memory)) }
 {
     let mut values = Vec::new(alloc);
     'places: for place in table_subtable_ids(table) {
@@ -112,12 +90,13 @@ pub fn dump_table<W: Output>(
     table: &Table,
     form: u8,
     output: &mut W,
-) -> Result<(), DumpWriteFault>
+) -> Result<(), StreamFault>
     requires { (form ≡ 1) ⊎ (form ≡ 2) }
     ensures dumped { OnOk result ((dump : Dump) × IsDumpOf dump table.now.contents × Gives W.Output output.old output.new (dump_text (form_of form) dump) 0) }
     // a beginning of the text was written
-    ensures memory { IsErrOf result DumpWriteFault.Memory → (dump : Dump) × IsDumpOf dump table.now.contents × (text : List ℕ) × (rest : List ℕ) × (text ++ rest ≡ dump_text (form_of form) dump) × Gives W.Output output.old output.new text 0 }
-    ensures failed { IsErrOf result DumpWriteFault.Output → HasFailed (W.failures output.old) (W.failures output.new) (W.interrupted output.new) }
+    ensures memory { IsErrOf result StreamFault.Memory → (dump : Dump) × IsDumpOf dump table.now.contents × (text : List ℕ) × (rest : List ℕ) × (text ++ rest ≡ dump_text (form_of form) dump) × Gives W.Output output.old output.new text 0 }
+    ensures failed { IsErrOf result StreamFault.Output → HasFailed (W.failures output.old) (W.failures output.new) (W.interrupted output.new) }
+    ensures faults { IfErr result (λ fault. (fault ≡ StreamFault.Output) ⊎ (fault ≡ StreamFault.Memory)) }
 {
     let mut sink = begin_dump(table.index(), table.last(), form, output)?;
     put_subtables(alloc, table, &mut sink, output)?;

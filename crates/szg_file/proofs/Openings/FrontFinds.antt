@@ -1,12 +1,13 @@
 -- Look-ups in a table that was opened by its front: the subtable, the bytes of the value's block, and the value.
 use Rattle.std.proofs.Common.{◌≡◌, ℕ, ◌+◌, ◌-◌, ◌*◌, ◌^◌, ◌<◌, ◌≤◌, List, length, take, drop, refl, sym, ap, subst, ◌∙◌, arith, drop-drop, Option, Some, None, option_map}
-use Rattle.std.specs.Prelude.{Bool, Result, Ok, Err, IfOk, IfErr, IfSome, MatchOption, position, slice_get, option_and_then}
+use Rattle.std.specs.Prelude.{Bool, Result, Ok, Err, IfOk, IfErr, IfSome, IsSomeAnd, MatchOption, position, slice_get, option_and_then}
 use Rattle.std.proofs.Math.Nat.{mul-le-mul_right}
 use Rattle.std.proofs.lemmas.List.{length-map, length-drop, length-take-le, take-take, drop-take}
 use Rattle.std.proofs.lemmas.Option.{slice_get-map}
 use Rattle.szg_values.specs.declared.Kind.{Kind}
 use Rattle.szg_block.specs.Block.{block_at, block_values}
 use Rattle.szg_block.specs.BlocksTrait.{bytes_at}
+use Rattle.szg_block.specs.Layout.{Layout}
 use Rattle.szg_block.specs.Sound.{SpellsNeeded}
 use Rattle.szg_block.specs.Steps.{block_location}
 use Rattle.szg_block.specs.Subtable.{layout_of, IsShapedHead, HasSoundIndex}
@@ -14,7 +15,7 @@ use Rattle.szg_block.specs.declared.Sub.{Sub}
 use Rattle.szg_block.specs.declared.Sub.TheVariants.{Constant, Pairs}
 use Rattle.szg_block.proofs.Deciding.{has_total-true, first_bad_entry-None}
 use Rattle.szg_file.specs.Contents.{Contents, Slot, slots, Subtable}
-use Rattle.szg_file.specs.Fetching.{IsSpot, NamesBadBlock}
+use Rattle.szg_file.specs.Fetching.{IsSpot, IsSpotAt, NamesBadBlock}
 use Rattle.szg_file.specs.FrontTable.{FrontKept, IsFrontOf}
 use Rattle.szg_file.specs.Index.{Index, slots_in, slot_in}
 use Rattle.szg_file.specs.Located.{IsKeptIn}
@@ -25,7 +26,7 @@ use Rattle.szg_file.specs.Wanted.{IsSpelledBy, wanted_block}
 use Rattle.szg_file.specs.Values.{subtable_at, constant_value}
 use Rattle.szg_file.specs.declared.reading.dropping.PlacedSub.{PlacedSub}
 use Rattle.szg_file.specs.declared.opened.fetching.FetchFault.{FetchFault}
-use Rattle.szg_file.specs.declared.opened.fetching.FetchFault.TheVariants.{Block, Source}
+use Rattle.szg_file.specs.declared.opened.fetching.FetchFault.TheVariants.{Block}
 use Rattle.szg_file.specs.declared.opened.fetching.BlockSpot.{BlockSpot}
 use Rattle.szg_file.proofs.Openings.KeptFronts.{kept_item, kept_subs_many}
 use Rattle.szg_file.proofs.Openings.OpenedLaws.{all_at}
@@ -93,6 +94,14 @@ pub spot_some : {S : Type 0} (spot : Option S) (s : S) (A : Type 0) (B : S → T
 spot_some None s A B e h = absurd (cc e)
 spot_some (Some t) s A B e h = let same : t ≡ s = cc e in subst B same h
 
+pub some_and : {A : Type 0} (o : Option A) (P Q : A → Type 0) → ((a : A) → P a → Q a) → IsSomeAnd o P → IsSomeAnd o Q
+some_and None P Q all h = absurd h
+some_and (Some a) P Q all h = all a h
+
+pub if_some_second : {A : Type 0} (o : Option A) (P Q : A → Type 0) → IfSome o (λ a. P a × Q a) → IfSome o Q
+if_some_second None P Q h = tt
+if_some_second (Some a) P Q h = h.1
+
 pub unread_known : (slot : Slot) (content : List ℕ) (sub : Sub) (first : ℕ) → IsUnread slot (whole_sub content (placed_at sub first)) → IsShapedHead sub slot.size × HasSoundIndex sub slot.size
 unread_known slot content (Constant flags byte) first h =
     let least = h.0 in
@@ -129,6 +138,13 @@ block_is_at block_bits blocks first n content there =
     ∙ ap (λ (z : List ℕ). take w z) (drop-take (n * w) k (drop first content))
     ∙ take-take w k (drop (n * w) (drop first content)) long
     ∙ ap (λ (z : List ℕ). take w z) (drop-drop (n * w) first content)
+
+short_in : (o : Option Layout) (first i : ℕ) (spot : BlockSpot) → IsSomeAnd o (λ layout. IsSpotAt layout first i spot) → spot.value.item < 65536
+short_in None first i spot h = absurd h
+short_in (Some layout) first i spot h = h.short
+
+pub spot_short : (placed : PlacedSub) (i : ℕ) (spot : BlockSpot) → IsSpot placed i spot → spot.value.item < 65536
+spot_short placed i spot h = short_in (layout_of placed.sub) placed.first i spot h
 
 -- the bytes of the value's block end within those of all blocks
 pub spot_inside : (sub : Sub) (first i count : ℕ) (spot : BlockSpot) → IsSpot (placed_at sub first) i spot → first + blocks_size sub ≤ count → spot.offset + spot.count ≤ count
@@ -209,14 +225,6 @@ wanted_long content sub first i spot A B h inside b =
     let bytes : List ℕ = bytes_at content spot.offset spot.count in
     let long : length bytes ≡ spot.count = block_long content spot.offset spot.count bytes refl (spot_inside sub first i (length content) spot h inside) in
     subst (λ (o : Option (List ℕ)). MatchOption o A (λ wanted. B (length wanted))) (sym (wanted_spot content sub first i spot h)) (subst B (sym long) b)
-
--- a block's fault is not that of a wrong length
-pub no_source : (r : Result ℕ FetchFault) (number offset : ℕ) → IfErr r (λ fault. fault ≡ Block number offset) → r ≡ Err Source → ⊥
-no_source (Ok value) number offset h e = cc e
-no_source (Err fault) number offset h e =
-    let source : fault ≡ Source = cc e in
-    let no : ◌≡◌ {A = FetchFault} Source (Block number offset) = sym source ∙ h in
-    cc no
 
 -- ---- the value that any bytes spell
 

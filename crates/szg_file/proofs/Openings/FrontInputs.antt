@@ -21,7 +21,7 @@ use Rattle.szg_file.specs.declared.fault.Reason.TheVariants.{Truncated}
 use Rattle.szg_file.specs.declared.fault.ReadFault.{ReadFault}
 use Rattle.szg_file.specs.declared.fault.ReadFault.TheVariants.{Refused, Device, Memory}
 use Rattle.szg_file.specs.declared.reading.state.ReaderState.{ReaderState}
-use Rattle.szg_file.specs.declared.reading.read_front.FrontRead as read
+use Rattle.szg_file.specs.declared.reading.FrontRead as read
 use Rattle.szg_file.proofs.Grammar.FormatLaws.{take_front}
 use Rattle.szg_file.proofs.Openings.FrontLaws.{front_then}
 use Rattle.szg_file.proofs.Openings.FrontTables.{begins_by}

@@ -8,7 +8,7 @@ use Rattle.szg_file.specs.Kept.{kept_contents, kept_subs}
 use Rattle.szg_file.specs.Outline.{outlined}
 use Rattle.szg_file.specs.Streaming.{values_if, wanted_of, wanted_values}
 use Rattle.szg_file.specs.Values.{slotted, values_of}
-use Rattle.szg_file.specs.declared.reading.outline.Outline.{Outline}
+use Rattle.szg_file.specs.declared.reading.Outline.{Outline}
 use Rattle.szg_file.proofs.Grammar.KeptLaws.{kept_all_flags, kept_values}
 use Rattle.szg_file.proofs.Openings.OutlinedLaws.{flags_whole, outline_index}
 

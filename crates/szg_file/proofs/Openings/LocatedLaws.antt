@@ -1,15 +1,55 @@
 -- What a located value ensures, by the part, side and index at which it was located.
-use Rattle.std.proofs.Common.{◌≡◌, ℕ, ◌+◌, ◌≤◌, List, length, subst, Option, Some, None}
-use Rattle.std.specs.Prelude.{◌≢◌, ◌↔◌, IfSome, IsOk, MatchOption, Result, Err}
+use Rattle.std.proofs.Common.{◌≡◌, ℕ, ◌+◌, ◌^◌, ◌<◌, ◌≤◌, List, length, subst, arith, Option, Some, None}
+use Rattle.std.specs.Prelude.{◌≢◌, ◌↔◌, IfNone, IfSome, IsOk, IsSomeAnd, MatchOption, Result, Err}
 use Rattle.szg_block.specs.BlocksTrait.{bytes_at}
+use Rattle.szg_block.specs.Kept.{IsLocatable}
+use Rattle.szg_block.specs.Subtable.{IsHeaded}
+use Rattle.szg_file.specs.Contents.{Slot}
 use Rattle.szg_file.specs.Fetching.{NamesBadBlock}
-use Rattle.szg_file.specs.FrontTable.{IsFrontOf}
-use Rattle.szg_file.specs.Located.{Location, located_at}
+use Rattle.szg_file.specs.FrontTable.{FrontKept, IsFrontOf}
+use Rattle.szg_file.specs.Index.{slot_in, slots_in}
+use Rattle.szg_file.specs.Located.{Location, located_at, IsKeptIn}
+use Rattle.szg_file.specs.Placed.{blocks_size, IsSlotted}
 use Rattle.szg_file.specs.Unread.{IsDecoded}
 use Rattle.szg_file.specs.Wanted.{IsSpelledBy, wanted_block}
 use Rattle.szg_file.specs.declared.opened.fetching.ByteRange.{ByteRange}
 use Rattle.szg_file.specs.declared.opened.fetching.FetchFault.{FetchFault}
 use Rattle.szg_file.specs.declared.opened.fetching.FetchFault.TheVariants.{Source}
+use Rattle.szg_file.specs.declared.reading.dropping.PlacedSub.{PlacedSub}
+use Rattle.szg_file.proofs.Openings.FrontFinds.{one_front_slot, one_front_found}
+use Rattle.szg_file.proofs.Openings.KeptFronts.{kept_known}
+
+-- ---- the subtable of a value
+
+pub record IsSlotKnown (l : Location) (slot : Slot) (placed : PlacedSub) : Type 0 where
+  pub below : l.index < slot.size
+  pub head : IsHeaded placed.sub
+  pub index : IsLocatable placed.sub slot.size
+  pub inside : placed.first + blocks_size placed.sub ≤ l.kept.length
+  pub short : l.kept.length < 2 ^ 64
+  pub front : (content : List ℕ) (h : IsFrontOf l.kept content) → IsKeptIn h.all (located_at content l) content slot placed
+
+pub slot_known : (kept : FrontKept) (content : List ℕ) (own : IsFrontOf kept content) (slots : List Slot) (subs : List PlacedSub) (part side i : ℕ) (same : slots ≡ slots_in kept.index) (same_subs : subs ≡ kept.subs)
+    (slot : Slot) (sub : PlacedSub) → IsSlotted slots subs part side slot sub → IsSomeAnd (slot_in kept.index part side) (λ slot. i < slot.size) →
+    IsSlotKnown (record { kept = kept; part = part; side = side; index = i }) slot sub
+slot_known kept content own slots subs part side i same same_subs slot sub at below =
+    let there = one_front_slot kept slots subs part side same same_subs slot sub at in
+    let found = one_front_found kept slots subs part side same same_subs content own slot sub at in
+    let known = kept_known own.all slot content sub.sub sub.first found.found.whole found.found.kept_is found.unread in
+    record {
+      below = subst (λ (o : Option Slot). IsSomeAnd o (λ slot. i < slot.size)) there below;
+      head = known.0;
+      index = known.1;
+      inside = omega (arith, found.fits.inside, own.long);
+      short = own.short;
+      front = λ content h. (one_front_found kept slots subs part side same same_subs content h slot sub at).found;
+    }
+
+pub spot_found : {S : Type 0} (spot : Option S) (A : Type 0) (B : S → Type 0) → IfNone spot A → IfSome spot B → MatchOption spot A B
+spot_found None A B none some = none
+spot_found (Some s) A B none some = some
+
+-- ---- what is ensured of it
 
 abbrev IsInside : Option ByteRange → Location → Type 0
 IsInside range l = IfSome range (λ w. w.offset + w.count ≤ l.kept.length)

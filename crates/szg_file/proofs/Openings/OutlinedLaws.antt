@@ -18,7 +18,7 @@ use Rattle.szg_file.specs.Reading.{Advances}
 use Rattle.szg_file.specs.Values.{subtable_at}
 use Rattle.szg_file.specs.declared.reading.dropping.PlacedSub.{PlacedSub}
 use Rattle.szg_file.specs.declared.reading.state.ReaderState.{ReaderState}
-use Rattle.szg_file.specs.declared.reading.outline.Outline.{Outline}
+use Rattle.szg_file.specs.declared.reading.Outline.{Outline}
 use Rattle.szg_file.proofs.Grammar.FormatLaws.{good-more}
 use Rattle.szg_file.proofs.Readers.ReadAnswers.{whole_file}
 use Rattle.szg_file.proofs.Openings.OpenedLaws.{forward_moved}

@@ -76,7 +76,7 @@ placed_fits count room first (Pairs flags block_bits span_bits extra blocks code
     record { inside = omega (arith, ends); roomy = roomy }
 
 -- the last `count` bytes
-last_bytes : (bytes : List ℕ) (first count : ℕ) → length bytes ≡ first + count → drop first bytes ≡ bytes_at bytes first count
+pub last_bytes : (bytes : List ℕ) (first count : ℕ) → length bytes ≡ first + count → drop first bytes ≡ bytes_at bytes first count
 last_bytes bytes first count e =
     let left : length (drop first bytes) ≡ count = omega (arith, length-drop first bytes, e) in
     sym (take-length (drop first bytes)) ∙ ap (λ (n : ℕ). take n (drop first bytes)) left

@@ -1,7 +1,8 @@
 -- The result of `read` follows from a reading of the whole file from its first byte on.
 use Rattle.std.proofs.Common.{◌≡◌, ℕ, List, [], ◌++◌, refl, sym, ap, subst, ◌∙◌, append-nil, Option, Some, None, Ok, Err}
-use Rattle.std.specs.Prelude.{IfSome, Result, IsErrOf}
+use Rattle.std.specs.Prelude.{IfSome, IsTrue, Result, IsErrOf}
 use Rattle.std.specs.Io.KnownBytes.{Consumes}
+use Rattle.szg_io.specs.Device.{HasFailed}
 use Rattle.szg_io.specs.Moved.{Takes}
 use Rattle.szg_values.specs.declared.Kind.{Kind}
 use Rattle.szg_values.specs.Material.{Sides}
@@ -21,6 +22,7 @@ use Rattle.szg_file.proofs.Grammar.CutLaws.{leaves_more}
 use Rattle.szg_file.proofs.Grammar.FormatLaws.{good-more, refused-more}
 use Rattle.szg_io.specs.declared.device.Input.{Ghosts}
 use Rattle.szg_file.proofs.Grammar.WholeLaws.{good_is_file}
+use Rattle.szg_file.proofs.Readers.LackingReads.{Stops}
 
 -- ---- specified bytes
 
@@ -117,3 +119,33 @@ fault_took material kind view Device first h lacks = (h.bytes, h.taken, tt)
 fault_took material kind view Memory first h lacks =
     let l = lacks refl in
     (l.bytes, l.taken, subst (λ (p : ℕ). IsCut (verdict (file material kind) p l.bytes)) first l.short)
+
+-- what `read` returns, and what it did, if it ends with a fault
+pub record Ends {R : Type 0} (material : Sides) (kind : Kind) (dev : Ghosts R) (i k : R) (fault : ReadFault) : Type 0 where
+  pub follows : IfSome (dev.coming i) (λ all. FollowsVerdict (verdict (file material kind) 0 all) (Err fault) (dev.coming k))
+  pub took : (bytes : List ℕ) × Takes dev i k bytes 1 × TookBytes material kind bytes (dev.coming k) (Err fault)
+  pub device : IsErrOf {T = Shown} (Err fault) Device → HasFailed (dev.failures i) (dev.failures k) (dev.interrupted k)
+  pub may_fail : IsErrOf {T = Shown} (Err fault) Device → IsTrue (dev.may_fail i)
+  pub quiet : (IsErrOf {T = Shown} (Err fault) Device → ⊥) → dev.failures k ≡ dev.failures i
+
+failed_device : {A X R : Type 0} (f : Format A) (view : X → A) (fault : ReadFault) {o n : ReaderState} {dev : Ghosts R} {i k : R} →
+    Reading f view o n dev i k (Err fault) → IsErrOf {T = Shown} (Err fault) Device → HasFailed (dev.failures i) (dev.failures k) (dev.interrupted k) × IsTrue (dev.may_fail i)
+failed_device f view (Refused place reason) h e = absurd cc
+failed_device f view Device h e = h.answer
+failed_device f view Memory h e = absurd cc
+
+not_failed : {A X R : Type 0} (f : Format A) (view : X → A) (fault : ReadFault) {o n : ReaderState} {dev : Ghosts R} {i k : R} →
+    Reading f view o n dev i k (Err fault) → (IsErrOf {T = Shown} (Err fault) Device → ⊥) → dev.failures k ≡ dev.failures i
+not_failed f view (Refused place reason) h never = h.answer.1
+not_failed f view Device h never = absurd (never refl)
+not_failed f view Memory h never = h.answer.1
+
+pub read_ends : {X R : Type 0} (material : Sides) (kind : Kind) (view : X → Contents) (fault : ReadFault) {o n : ReaderState} {dev : Ghosts R} {i k : R} → o.place ≡ 0 →
+    Stops (file material kind) view o n dev i k fault → Ends material kind dev i k fault
+read_ends material kind view fault first h = record {
+  follows = fault_follows (file material kind) view fault first h.read h.lacks;
+  took = fault_took material kind view fault first h.read h.lacks;
+  device = λ e. (failed_device (file material kind) view fault h.read e).0;
+  may_fail = λ e. (failed_device (file material kind) view fault h.read e).1;
+  quiet = not_failed (file material kind) view fault h.read;
+}

@@ -1,5 +1,6 @@
 -- Values that a sink accepts while blocks are read.
 use Rattle.std.proofs.Common.{◌≡◌, ℕ, zero, suc, ◌+◌, ◌-◌, ◌*◌, ◌^◌, ◌<◌, ◌≤◌, Bool, true, false, List, [], ◌∷◌, ◌++◌, length, take, drop, replicate, refl, sym, ap, subst, ◌∙◌, append-nil, append_assoc, arith, map, None, Ok}
+use Rattle.std.specs.Prelude.{IfSome}
 use Rattle.std.specs.List.{FoldsTo, flat_map, range_with_len}
 use Rattle.std.proofs.Math.Nat.{mul-le-mul_right}
 use Rattle.std.proofs.Math.Seq.{drop-append_seam, take-length}
@@ -8,6 +9,7 @@ use Rattle.std.proofs.lemmas.List.Concat.{flat_map-append}
 use Rattle.szg_values.specs.declared.Kind.{Kind}
 use Rattle.szg_block.specs.Block.{needed, block_at, block_values}
 use Rattle.szg_block.proofs.Values.{range-last}
+use Rattle.szg_block.specs.BlocksTrait.{bytes_at}
 use Rattle.szg_block.specs.Expansion.{needed_values, joined_values}
 use Rattle.szg_block.specs.Layout.{Layout}
 use Rattle.szg_block.specs.Subtable.{layout_of}
@@ -16,10 +18,12 @@ use Rattle.szg_block.specs.declared.Sub.TheVariants.{Constant, Pairs}
 use Rattle.szg_io.specs.declared.device.Input.{Ghosts}
 use Rattle.szg_file.specs.Format.{Format}
 use Rattle.szg_file.specs.Held.{subtable_of}
-use Rattle.szg_file.specs.Placed.{since}
+use Rattle.szg_file.specs.Blocks.{with_blocks}
+use Rattle.szg_file.specs.Placed.{since, whole_sub}
 use Rattle.szg_file.specs.Reading.{Reading}
 use Rattle.szg_file.specs.declared.reading.state.ReaderState.{ReaderState}
 use Rattle.szg_file.proofs.Readers.PassedBlocks.{since_is}
+use Rattle.szg_file.proofs.Readers.PlacedSubs.{last_bytes, placed_at}
 use Rattle.szg_file.specs.Lookup.{byte_of}
 use Rattle.szg_file.specs.Contents.{Slot, Subtable}
 use Rattle.szg_file.specs.File.{Begun}
@@ -137,6 +141,18 @@ blocks_long f view {dev = dev} {i = i} {k = k} h e =
     let moved : since (dev.moved i) (dev.moved k) ≡ h.bytes = since_is (dev.moved i) (dev.moved k) h.bytes h.taken.bytes_moved in
     let place = h.answer.0.place in
     ap (λ (z : List ℕ). length z) moved ∙ omega (arith, place, e)
+
+-- the values of a subtable whose blocks were moved
+pub placed_accepted : {K W : Type 0} (accepts : K → W → List ℕ → K → W → Type 0) (kind : Kind) (size : ℕ) (sub : Sub) (first : ℕ) (old new : List ℕ) (wanted : Bool) {sink sink' : K} {out out' : W} →
+    (layout_of sub ≡ None → ⊥) → first ≡ length old → IfSome (layout_of sub) (λ layout. length new ≡ first + layout.blocks * 2 ^ layout.block_bits) →
+    IfSome (layout_of sub) (λ layout. Accepted accepts (values_if wanted (joined_values layout (since old new) size)) sink out sink' out') →
+    Accepted accepts (values_if wanted (values_in kind size (whole_sub new (placed_at sub first)))) sink out sink' out'
+placed_accepted accepts kind size (Constant flags byte) first old new wanted some at ends h = absurd (some refl)
+placed_accepted accepts kind size (Pairs flags block_bits span_bits extra blocks code dict sparse lengths packed) first old new wanted some at ends h =
+    let here : since old new ≡ bytes_at new first (blocks * 2 ^ block_bits) = ap (λ (n : ℕ). drop n new) (sym at) ∙ last_bytes new first (blocks * 2 ^ block_bits) ends in
+    let sub : Sub = Pairs flags block_bits span_bits extra blocks code dict sparse lengths packed in
+    accepted_as accepts _ (values_if wanted (values_in kind size (whole_sub new (placed_at sub first))))
+    (ap (λ (z : List ℕ). values_if wanted (values_in kind size (with_blocks (subtable_of sub) z))) here) h
 
 -- ---- subtables
 

@@ -1,5 +1,5 @@
 -- A whole file is read in three stages, and the result of `read` follows from one reading of it.
-use Rattle.std.proofs.Common.{◌≡◌, ℕ, List, sym, ap, subst, ◌∙◌, Option, Ok, Err}
+use Rattle.std.proofs.Common.{◌≡◌, ℕ, List, refl, sym, ap, subst, ◌∙◌, Option, Ok, Err}
 use Rattle.szg_values.specs.declared.Kind.{Kind}
 use Rattle.szg_values.specs.Material.{Sides}
 use Rattle.szg_file.specs.declared.reading.state.ReaderState.{ReaderState}
@@ -7,7 +7,7 @@ use Rattle.szg_file.specs.declared.fault.ReadFault.{ReadFault}
 use Rattle.szg_file.specs.Format.{Format, means, field, ◌>>=◌}
 use Rattle.szg_file.specs.Contents.{Part, Subtable, Map, Contents, slots, part_numbers}
 use Rattle.szg_file.specs.File.{Begun, begun, each, magic_field, byte4_field, part_field, filled_to, head_field, maps_field, sparse_field, lengths_field}
-use Rattle.szg_file.specs.Reading.{Reading}
+use Rattle.szg_file.specs.Reading.{Reading, start_field}
 use Rattle.szg_file.specs.FilePieces.{Opened, opening_field, ending_field}
 use Rattle.szg_file.specs.Unread.{file_by}
 use Rattle.szg_file.proofs.Grammar.EachLaws.{then-then, then-means}
@@ -44,6 +44,22 @@ after_parts material kind byte parts = filled_to 2 >>= after_gap material kind b
 
 abbrev pub after_start : Sides → Kind → ℕ → Format Opened
 after_start material kind byte = each (λ _. part_field material kind) (part_numbers material) >>= after_parts material kind byte
+
+-- an opening whose parts were read
+pub opening_read : {P H F R : Type 0} (material : Sides) (kind : Kind) (seen : P → List Part) (headed : H → List Subtable) (mapped : F → List (Option Map))
+    {a b c d e z : ReaderState} {dev : Ghosts R} {i j k l m n : R} (byte : ℕ) (parts : P) (done : Unit {0}) (heads : H) (maps : F) →
+    Reading (start_field material kind) (λ (s : ℕ). s) a b dev i j (Ok byte) →
+    Reading (each (λ _. part_field material kind) (part_numbers material)) seen b c dev j k (Ok parts) →
+    Reading (filled_to 2) (λ (_ : Unit {0}). tt) c d dev k l (Ok done) →
+    Reading (each head_field (slots material kind (seen parts))) headed d e dev l m (Ok heads) →
+    Reading (maps_field kind (headed heads)) mapped e z dev m n (Ok maps) →
+    Reading (opening_field material kind) (λ (o : Opened). o) a z dev i n (Ok (record { byte4 = byte; parts = seen parts; heads = headed heads; maps = mapped maps }))
+opening_read material kind seen headed mapped byte parts done heads maps start parted gap heading mapping =
+    reads_then (start_field material kind) (after_start material kind) (λ s. s) (λ (o : Opened). o) byte start
+    (reads_then (each (λ _. part_field material kind) (part_numbers material)) (after_parts material kind byte) seen (λ (o : Opened). o) parts parted
+    (reads_then (filled_to 2) (after_gap material kind byte (seen parts)) (λ _. tt) (λ (o : Opened). o) done gap
+    (reads_then (each head_field (slots material kind (seen parts))) (after_heads material kind byte (seen parts)) headed (λ (o : Opened). o) heads heading
+    (reads_made (maps_field kind (headed heads)) (λ found. record { byte4 = byte; parts = seen parts; heads = headed heads; maps = found }) mapped (λ (o : Opened). o) maps _ refl mapping))))
 
 -- ---- the three stages are the file
 

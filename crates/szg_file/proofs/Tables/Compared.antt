@@ -1,31 +1,82 @@
--- Two lists are compared item by item.
-use Rattle.std.proofs.Common.{◌≡◌, ℕ, zero, suc, add-one, ◌+◌, ◌<◌, ◌≤◌, List, [], ◌∷◌, ◌++◌, length, map, take, get_or, sym, ap, ◌∙◌, arith}
-use Rattle.std.proofs.lemmas.List.{length-map, map-append, take_all}
-use Rattle.std.proofs.Math.Seq.{take-suc}
+-- Lists are compared item by item.
+use Rattle.std.proofs.Common.{◌≡◌, ℕ, true, false, List, [], ◌∷◌, map, refl, sym, ap, subst, ◌∙◌, Vec, Global}
+use Rattle.std.specs.Bool.{Decides}
+use Rattle.std.specs.Cmp.Lexicographic.{pointwise}
+use Rattle.std.specs.Prelude.{Bool, ◌&&◌, Option, Some, None, option_map}
+use Rattle.std.specs.Option.{option_eq}
+use Rattle.std.specs.Str.{bytes_eq}
+use Rattle.std.proofs.lemmas.Slice.Eq.{bytes_eq-Decides}
+use Rattle.szg_file.specs.Contents.{Part, narrow, wide}
+use Rattle.szg_file.specs.Held.{map_of, part_of}
+use Rattle.szg_file.specs.declared.table.Map.{Map}
+use Rattle.szg_file.specs.declared.table.Map.TheVariants.{Bytes, Wide}
+use Rattle.szg_file.specs.declared.table.PartBytes.{PartBytes}
+use Rattle.szg_file.specs.contracts.table.PartBytesPartialEq.TheImpl.{eq-value as part_eq}
+use Rattle.szg_file.specs.contracts.table.MapPartialEq.TheImpl.{eq-value as map_eq}
 
-module _ {A B : Type 0} (f : A → B) where
-  -- equal lists have equal items
-  pub items_same : (xs ys : List A) (n : ℕ) (x y : A) → n < length xs → n < length ys → x ≡ get_or xs n x → y ≡ get_or ys n y → map f xs ≡ map f ys → f x ≡ f y
-  items_same [] ys n x y h k p q e = absurd (omega (arith, h))
-  items_same (a ∷ xs) [] n x y h k p q e = absurd (omega (arith, k))
-  items_same (a ∷ xs) (b ∷ ys) zero x y h k p q e = ap f p ∙ (let first : f a ≡ f b = cc e in first) ∙ ap f (sym q)
-  items_same (a ∷ xs) (b ∷ ys) (suc n) x y h k p q e = items_same xs ys n x y (omega (arith, h)) (omega (arith, k)) p q (let rest : map f xs ≡ map f ys = cc e in rest)
+both : (a b : Bool) → a ≡ true → b ≡ true → (a && b) ≡ true
+both true b e h = h
+both false b e h = absurd (cc e)
 
-  -- one more equal item
-  pub same_more : (xs ys : List A) (n : ℕ) (x y : A) → n < length xs → n < length ys → x ≡ get_or xs n x → y ≡ get_or ys n y → f x ≡ f y →
-      map f (take n xs) ≡ map f (take n ys) → map f (take (n + 1) xs) ≡ map f (take (n + 1) ys)
-  same_more xs ys n x y h k p q e before =
-      let first : take (n + 1) xs ≡ take n xs ++ get_or xs n x ∷ [] = ap (λ (m : ℕ). take m xs) (add-one n) ∙ take-suc xs n x h in
-      let second : take (n + 1) ys ≡ take n ys ++ get_or ys n y ∷ [] = ap (λ (m : ℕ). take m ys) (add-one n) ∙ take-suc ys n y k in
-      ap (λ (z : List A). map f z) first ∙ map-append f (take n xs) (get_or xs n x ∷ [])
-      ∙ ap (λ (z : List B). z ++ f (get_or xs n x) ∷ []) before
-      ∙ ap (λ (z : B). map f (take n ys) ++ z ∷ []) (ap f (sym p) ∙ e ∙ ap f q)
-      ∙ sym (ap (λ (z : List A). map f z) second ∙ map-append f (take n ys) (get_or ys n y ∷ []))
+first : (a b : Bool) → (a && b) ≡ true → a ≡ true
+first true b e = refl
+first false b e = absurd (cc e)
 
-  -- all items are equal
-  pub same_all : (xs ys : List A) (n : ℕ) → length xs ≤ n → length ys ≤ n → map f (take n xs) ≡ map f (take n ys) → map f xs ≡ map f ys
-  same_all xs ys n h k e = ap (λ (z : List A). map f z) (sym (take_all n xs h)) ∙ e ∙ ap (λ (z : List A). map f z) (take_all n ys k)
+second : (a b : Bool) → (a && b) ≡ true → b ≡ true
+second true b e = e
+second false b e = absurd (cc e)
 
-  -- lists of different lengths differ
-  pub same_length : (xs ys : List A) → map f xs ≡ map f ys → length xs ≡ length ys
-  same_length xs ys e = sym (length-map xs f) ∙ ap (λ (z : List B). length z) e ∙ length-map ys f
+-- a test of items that says whether their views are equal says it of lists too
+module _ {A B : Type 0} (view : A → B) (E : A → A → Bool) (decides : (a b : A) → Decides (E a b) (view a ≡ view b)) where
+  pub viewed-Decides : (xs ys : List A) → Decides (pointwise E xs ys) (map view xs ≡ map view ys)
+  viewed-Decides [] [] = (λ _. refl, λ _. refl)
+  viewed-Decides [] (y ∷ ys) = (λ t. absurd (cc t), λ e. absurd (cc e))
+  viewed-Decides (x ∷ xs) [] = (λ t. absurd (cc t), λ e. absurd (cc e))
+  viewed-Decides (x ∷ xs) (y ∷ ys) =
+      let rest = viewed-Decides xs ys in
+      let item = decides x y in (
+        λ t.
+            let here = item.0 (first (E x y) (pointwise E xs ys) t) in
+            ap (λ (z : B). z ∷ map view xs) here ∙ ap (λ (z : List B). view y ∷ z) (rest.0 (second (E x y) (pointwise E xs ys) t)),
+        λ e.
+            let here : view x ≡ view y = cc e in
+            let others : map view xs ≡ map view ys = cc e in
+            both (E x y) (pointwise E xs ys) (item.1 here) (rest.1 others),
+      )
+
+  pub option-Decides : (a b : Option A) → Decides (option_eq E a b) (option_map view a ≡ option_map view b)
+  option-Decides None None = (λ _. refl, λ _. refl)
+  option-Decides None (Some y) = (λ t. absurd (cc t), λ e. absurd (cc e))
+  option-Decides (Some x) None = (λ t. absurd (cc t), λ e. absurd (cc e))
+  option-Decides (Some x) (Some y) = (λ t. ap Some ((decides x y).0 t), λ e. let here : view x ≡ view y = cc e in (decides x y).1 here)
+
+-- ---- the tests of parts and maps
+
+pub part_test : (a b : PartBytes) → Decides (part_eq.it a b) (part_of a ≡ part_of b)
+part_test a b =
+    let orders = bytes_eq-Decides a.order.items b.order.items in
+    let men = bytes_eq-Decides a.men.items b.men.items in (
+      λ t.
+          let order : a.order.items ≡ b.order.items = orders.0 (first (bytes_eq a.order.items b.order.items) (bytes_eq a.men.items b.men.items) t) in
+          let others : a.men.items ≡ b.men.items = men.0 (second (bytes_eq a.order.items b.order.items) (bytes_eq a.men.items b.men.items) t) in
+          ap (λ (z : List ℕ). let p : Part = record { order = z; men = a.men.items } in p) order ∙ ap (λ (z : List ℕ). let p : Part = record { order = b.order.items; men = z } in p) others,
+      λ e. both (bytes_eq a.order.items b.order.items) (bytes_eq a.men.items b.men.items) (orders.1 (ap (λ (p : Part). p.order) e)) (men.1 (ap (λ (p : Part). p.men) e)),
+    )
+
+lists_test : (xs ys : List (Vec ℕ Global)) → Decides (pointwise (λ (x y : Vec ℕ Global). bytes_eq x.items y.items) xs ys) (map (λ list. list.items) xs ≡ map (λ list. list.items) ys)
+lists_test = viewed-Decides (λ (list : Vec ℕ Global). list.items) (λ (x y : Vec ℕ Global). bytes_eq x.items y.items) (λ x y. bytes_eq-Decides x.items y.items)
+
+pub map_test : (a b : Map) → Decides (map_eq.it a b) (map_of a ≡ map_of b)
+map_test (Bytes xs) (Bytes ys) = (λ t. ap narrow ((lists_test xs ys).0 t), λ e. let same : map (λ list. list.items) xs ≡ map (λ list. list.items) ys = cc e in (lists_test xs ys).1 same)
+map_test (Wide xs) (Wide ys) = (λ t. ap wide ((lists_test xs ys).0 t), λ e. let same : map (λ list. list.items) xs ≡ map (λ list. list.items) ys = cc e in (lists_test xs ys).1 same)
+map_test (Bytes xs) (Wide ys) = (λ t. absurd (cc t), λ e. absurd (cc e))
+map_test (Wide xs) (Bytes ys) = (λ t. absurd (cc t), λ e. absurd (cc e))
+
+-- lists of parts, and lists of maps
+pub parts_test : (xs ys : List PartBytes) (r : Bool) → r ≡ pointwise part_eq.it xs ys → Decides r (map part_of xs ≡ map part_of ys)
+parts_test xs ys r e = subst (λ (b : Bool). Decides b (map part_of xs ≡ map part_of ys)) (sym e) (viewed-Decides part_of part_eq.it part_test xs ys)
+
+pub maps_test : (xs ys : List (Option Map)) (r : Bool) → r ≡ pointwise (option_eq map_eq.it) xs ys → Decides r (map (option_map map_of) xs ≡ map (option_map map_of) ys)
+maps_test xs ys r e =
+    subst (λ (b : Bool). Decides b (map (option_map map_of) xs ≡ map (option_map map_of) ys)) (sym e)
+    (viewed-Decides (option_map map_of) (option_eq map_eq.it) (option-Decides map_of map_eq.it map_test) xs ys)

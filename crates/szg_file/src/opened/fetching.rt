@@ -1,10 +1,6 @@
 //! Look-ups in a table that was opened by its front: the block of a value is verified before the value is decoded.
-ghost use Rattle.std.specs.Prelude.{◌≡◌, ◌+◌, ◌<◌, ◌^◌, None, Some, IfErr, IfNone, IfOk, IfSome, length, slice_get};
-ghost use Rattle.szg_block.specs.Block.{block_values};
-ghost use Rattle.szg_block.specs.BlocksTrait.{bytes_at};
+ghost use Rattle.std.specs.Prelude.{◌≡◌, ◌+◌, ◌<◌, ◌^◌, None, IfNone, IfSome};
 ghost use Rattle.szg_block.specs.Kept.{IsLocatable};
-ghost use Rattle.szg_block.specs.Sound.{SpellsNeeded};
-ghost use Rattle.szg_block.specs.Steps.{block_location};
 ghost use Rattle.szg_block.specs.Subtable.{layout_of, IsHeaded};
 ghost use Rattle.szg_file.specs.Fetching.{IsSpot};
 ghost use Rattle.szg_file.specs.Placed.{blocks_size};
@@ -60,43 +56,6 @@ fn spot_of(found: &Slotted, i: u64) -> Option<BlockSpot>
         offset: placed.first + u64::from(value.block) * count,
         count,
     })
-}
-
-/// Returns value `i` of a subtable, decoded from its block's bytes, which are verified first.
-#[inline(always)]
-fn value_at(found: &Slotted, i: u64, spot: BlockSpot, block: &[u8]) -> Result<u16, FetchFault>
-    requires head { IsHeaded found.now.placed.now.sub }
-    requires index { IsLocatable found.now.placed.now.sub found.now.slot.size }
-    requires below { i < found.now.slot.size }
-    requires spot { IsSpot found.now.placed.now i spot }
-    requires whole { length block.now ≡ spot.count }
-    ensures verified { IfOk result (λ value. IfSome (layout_of found.now.placed.now.sub) (λ layout. SpellsNeeded layout found.now.slot.size (block_location layout i).list block.now)) }
-    ensures value { IfOk result (λ value. IfSome (layout_of found.now.placed.now.sub) (λ layout. slice_get (block_values layout block.now) (block_location layout i).item ≡ Some value)) }
-    ensures fault { IfErr result (λ fault. fault ≡ FetchFault.Block spot.value.block spot.offset) }
-    ensures bad { IfErr result (λ fault. IfSome (layout_of found.now.placed.now.sub) (λ layout. ¬ SpellsNeeded layout found.now.slot.size (block_location layout i).list block.now)) }
-{
-    let Slotted { slot, placed } = *found;
-    match checked_value(&placed.sub, slot.size, i, spot.value, block) {
-        Ok(value) => Ok(value),
-        Err(_) => Err(FetchFault::Block {
-            number: spot.value.block,
-            offset: spot.offset,
-        }),
-    }
-}
-
-/// Returns `count` bytes from `offset` on. None if there are fewer.
-fn bytes_from(bytes: &[u8], offset: u64, count: u64) -> Option<&[u8]>
-    ensures there { IfSome result (λ chunk. chunk.now ≡ bytes_at bytes.now offset count) }
-    ensures whole { IfSome result (λ chunk. length chunk.now ≡ count) }
-    ensures none { IfNone result (length bytes.now < offset + count) }
-{
-    let length = bytes.len() as u64;
-    if offset > length || count > length - offset {
-        return None;
-    }
-    let first = offset as usize;
-    Some(&bytes[first..first + count as usize])
 }
 
 /// A value of a table that was opened by its front, with the location of its block.
@@ -163,37 +122,23 @@ impl<'a> Located<'a> {
         if block.len() as u64 != spot.count {
             return Err(FetchFault::Source);
         }
-        value_at(&self.found, self.index, spot, block)
+        let Slotted { slot, placed } = self.found;
+        match checked_value(&placed.sub, slot.size, self.index, spot.value, block) {
+            Ok(value) => Ok(value),
+            Err(_) => Err(FetchFault::Block {
+                number: spot.value.block,
+                offset: spot.offset,
+            }),
+        }
     }
 }
 
 impl FrontTable {
-    ghost use Rattle.std.specs.Prelude.{ℕ, List, ◌≡◌, ◌+◌, ◌^◌, ◌<◌, ◌≤◌, Some, IfErr, IfOk, IfSome, IsSomeAnd};
+    ghost use Rattle.std.specs.Prelude.{◌≡◌, ◌<◌, IfErr, IfOk, IfSome, IsSomeAnd};
     ghost use Rattle.szg_file.specs.Fetching.{NamesBadBlock};
     ghost use Rattle.szg_file.specs.FrontTable.{IsFrontOf};
     ghost use Rattle.szg_file.specs.Index.{slot_in};
-    ghost use Rattle.szg_file.specs.Located.{IsKeptIn};
-    ghost use Rattle.szg_file.specs.Placed.{blocks_size};
-    ghost use Rattle.szg_block.specs.Kept.{IsLocatable};
-    ghost use Rattle.szg_block.specs.Subtable.{IsHeaded};
     ghost use Rattle.szg_file.specs.Unread.{front_at, IsDecoded};
-
-    // Returns the slot of value `i` of a part's side, with its subtable.
-    #[inline(always)]
-    fn slotted(&self, part: u8, side: u8, i: u64) -> Slotted<'_>
-        requires { IsSomeAnd (slot_in self.now.index part side) (λ slot. i < slot.size) }
-        ensures below { i < result.slot.size }
-        ensures head { IsHeaded result.placed.now.sub }
-        ensures index { IsLocatable result.placed.now.sub result.slot.size }
-        ensures inside { result.placed.now.first + blocks_size result.placed.now.sub ≤ self.now.length }
-        ensures short { self.now.length < 2 ^ 64 }
-        ensures front { (content : List ℕ) (h : IsFrontOf self.now content) → IsKeptIn h.all (front_at self.now.index.material self.now.index.kind content part side) content result.slot result.placed.now }
-    {
-        let Some(found) = slotted_at(self.index.slots(), &self.subs, part, side) else {
-            unreachable!()
-        };
-        found
-    }
 
     /// Locates value `i` of a part's side: finds the block that contains it. It reads nothing.
     #[inline(always)]
@@ -201,7 +146,9 @@ impl FrontTable {
         requires { IsSomeAnd (slot_in self.now.index part side) (λ slot. i < slot.size) }
         ensures { result ≡ record { kept = self.now; part = part; side = side; index = i } }
     {
-        let found = self.slotted(part, side, i);
+        let Some(found) = slotted_at(self.index.slots(), &self.subs, part, side) else {
+            unreachable!()
+        };
         let spot = spot_of(&found, i);
         Located {
             front: self,
@@ -227,7 +174,8 @@ impl FrontTable {
         let Some(range) = located.range() else {
             return located.decode(&[]);
         };
-        let Some(block) = bytes_from(bytes, range.offset, range.count) else {
+        let first = range.offset as usize;
+        let Some(block) = bytes.get(first..first + range.count as usize) else {
             return Err(FetchFault::Source);
         };
         located.decode(block)

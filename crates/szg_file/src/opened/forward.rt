@@ -1,6 +1,6 @@
 //! A reader over a source, from its first byte on.
 
-ghost use Rattle.std.specs.Prelude.{◌≡◌, ◌+◌, ◌<◌, ◌≤◌, length, min, take, drop, IfOk, OnErr};
+ghost use Rattle.std.specs.Prelude.{◌≡◌, ◌<◌, length, min, take, IfOk, OnErr};
 ghost use Rattle.szg_block.specs.BlocksTrait.{failed_after};
 ghost use Rattle.szg_file.specs.Forward.{IsForward};
 
@@ -76,28 +76,6 @@ impl<S: Source + Drop> Forward<S> {
     }
 }
 
-/// Reads bytes from `place` on, before `last`, into the front of a chunk; returns their number. There is at least
-/// one.
-fn read_chunk<S: Source>(
-    source: &mut S,
-    place: u64,
-    last: u64,
-    chunk: &mut [u8],
-) -> Result<usize, SourceFault>
-    requires last { last ≤ length (S.content source.old) }
-    requires some { place < last }
-    requires room { 0 < length chunk.old }
-    ensures read { IfOk result (λ n. take n chunk.new ≡ take n (drop place (S.content source.old))) }
-    ensures some { IfOk result (λ n. 0 < n) }
-    ensures within { IfOk result (λ n. n ≤ length chunk.new) }
-    ensures inside { IfOk result (λ n. place + n ≤ last) }
-    ensures same_bytes { S.content source.new ≡ S.content source.old }
-    ensures failed { S.failed source.new ≡ failed_after result (S.failed source.old) }
-{
-    let size = (last - place).min(chunk.len() as u64) as usize;
-    source.read_at(place, &mut chunk[..size])
-}
-
 /// Returns the range of the chunk's bytes to be returned next: those left in it, else up to `most` bytes that are
 /// read now. It is empty only at the source's end.
 fn next_bytes<S: Source>(
@@ -119,8 +97,8 @@ fn next_bytes<S: Source>(
     if from < to || place == end || most == 0 {
         return Ok((from, to));
     }
-    let last = place.saturating_add(most).min(end);
-    let count = read_chunk(source, place, last, chunk)?;
+    let size = most.min(end - place).min(chunk.len() as u64) as usize;
+    let count = source.read_at(place, &mut chunk[..size])?;
     Ok((0, count))
 }
 

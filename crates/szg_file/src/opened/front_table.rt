@@ -1,24 +1,29 @@
 //! Tables opened by their front alone: headers, maps, sparse indexes and block lengths are read and checked. A
 //! block is verified when it is fetched.
-ghost use Rattle.std.specs.Prelude.{ℕ, Bool, false, List, ◌≡◌, ◌≤◌, ◌<◌, ◌^◌, [], IfErr, IfOk, IfSome, IsErrOf, IsTrue, length, map};
+ghost use Rattle.std.specs.Prelude.{ℕ, Bool, false, List, ◌≡◌, ◌≤◌, ◌<◌, ◌^◌, [], IfErr, IfOk, IfSome, IsErrOf, IsTrue, length, map, ◌+◌, ◌*◌};
 ghost use Rattle.szg_io.specs.Device.{HasFailed};
-ghost use Rattle.szg_file.specs.Contents.{slots};
+ghost use Rattle.szg_file.specs.Contents.{slots, gap};
 ghost use Rattle.szg_file.specs.Format.{verdict};
 ghost use Rattle.szg_file.specs.FrontInput.{IsFrontFault, IsFrontRead, IsFrontVerdict};
 ghost use Rattle.szg_file.specs.FrontRead.{front_read};
 ghost use Rattle.szg_file.specs.FrontTable.{IsFrontOf, IsWholeFront, KeepsOnlyNeeded};
-ghost use Rattle.szg_file.specs.Held.{part_of};
+ghost use Rattle.szg_file.specs.Held.{part_of, subtable_of};
 ghost use Rattle.szg_file.specs.Kept.{BeginsWithKept};
-ghost use Rattle.szg_file.specs.Unread.{BeginsWithFront, unread_file};
+ghost use Rattle.szg_file.specs.Unread.{BeginsWithFront, unread_file, blocks_end, blocks_first, unread_end, unread_subs};
+ghost use Rattle.std.specs.List.{AllByRecursion};
+ghost use Rattle.szg_block.specs.Subtable.{layout_of};
+ghost use Rattle.szg_file.specs.Placed.{whole_sub, Fits};
 
+use crate::begun::Measured;
 use crate::fault::{ReadFault, Reason};
-use crate::opened::placing::{padding_to_64, place_subs};
+use crate::reading::blocks::block_bytes;
 use crate::reading::dropping::PlacedSub;
-use crate::reading::read_front::{FrontRead, read_front};
 use crate::reading::state::ReaderState;
+use crate::reading::{FrontRead, read_front};
 use crate::table_index::{TableIndex, index_of_placed};
-use std::alloc::Global;
+use std::alloc::{AllocError, Global};
 use std::marker::Model;
+use szg_block::Sub;
 use szg_io::Input;
 use szg_values::{Kind, Material};
 
@@ -92,6 +97,70 @@ impl FrontTable {
     }
 }
 
+/// Subtables with the offsets of their first blocks.
+#[derive(Drop)]
+pub struct PlacedSubs {
+    pub subs: Vec<PlacedSub>,
+    /// The offset after the last block.
+    pub end: u64,
+    /// The length of the longest block.
+    pub room: usize,
+}
+
+/// Returns the number of padding bytes from offset `place` up to a multiple of 64.
+fn padding_to_64(place: u64) -> u64
+    ensures gap { result ≡ gap 64 place }
+    ensures few { result < 64 }
+{
+    (64 - place % 64) % 64
+}
+
+/// Returns the offset of a subtable's first block and the offset after its last. The padding of the blocks begins
+/// at offset `place`.
+fn place_blocks(sub: &Sub, place: u64) -> (u64, u64)
+    requires place { place < 2 ^ 61 }
+    requires bits { IfSome (layout_of sub.now) (λ layout. layout.block_bits ≤ 18) }
+    ensures first { result.0 ≡ blocks_first place (subtable_of sub.now) }
+    ensures end { result.1 ≡ blocks_end place (subtable_of sub.now) }
+    ensures long { result.1 ≤ place + 2 ^ 51 }
+{
+    match sub {
+        Sub::Constant { .. } => (0, place),
+        Sub::Pairs {
+            block_bits,
+            blocks,
+            ..
+        } => {
+            let first = place + padding_to_64(place);
+            (first, first + u64::from(*blocks) * (1 << *block_bits))
+        }
+    }
+}
+
+/// Computes the offsets of each subtable's blocks. The padding of the first begins at offset `place`, and each
+/// subtable follows the previous one. Errors: an allocation was refused.
+fn place_subs(alloc: Global, list: Vec<Measured>, place: u64) -> Result<PlacedSubs, AllocError>
+    requires few { length list.items ≤ 8 }
+    requires place { place < 2 ^ 60 }
+    ensures subs { IfOk result (λ p. (content : List ℕ) → map (whole_sub content) p.subs.items ≡ unread_subs content place list.items) }
+    ensures end { IfOk result (λ p. p.end ≡ unread_end place list.items) }
+    ensures few { IfOk result (λ p. p.end ≤ place + 8 * 2 ^ 51) }
+    ensures fits { IfOk result (λ p. (content : List ℕ) → p.end ≤ length content → AllByRecursion (Fits (length content) p.room) p.subs.items) }
+{
+    let mut subs = Vec::new(alloc);
+    let mut end = place;
+    let mut room = 0;
+    'subtables: for measured in list {
+        let Measured { sub, .. } = measured;
+        let at = place_blocks(&sub, end);
+        room = room.max(block_bytes(&sub) as usize);
+        let first = at.0;
+        subs.push(PlacedSub { sub, first })?;
+        end = at.1;
+    }
+    Ok(PlacedSubs { subs, end, room })
+}
+
 /// Returns the table of a front that was read from the first `place` bytes of a file of `size` bytes. Errors: `Truncated`
 /// at `size` if the file is too short for the blocks and what follows them; `Memory`.
 fn front_table(
@@ -114,24 +183,16 @@ fn front_table(
     ensures refused { IfErr result (λ fault. (all : Bool) (content : List ℕ) → length content ≡ size → BeginsWithKept all material kind (front_read read) place content → IsFrontFault (verdict (unread_file material kind) 0 content) fault) }
     ensures never { IsErrOf result ReadFault.Device → ⊥ }
 {
-    let FrontRead {
-        byte4,
-        parts,
-        maps,
-        measured,
-    } = read;
-    let placed = place_subs(alloc, measured, place)?;
+    let placed = place_subs(alloc, read.measured, place)?;
     let ending = placed.end + padding_to_64(placed.end);
     if size < ending + 16 {
-        return Err(ReadFault::Refused {
-            place: size,
-            reason: Reason::Truncated,
-        });
+        let (place, reason) = (size, Reason::Truncated);
+        return Err(ReadFault::Refused { place, reason });
     }
-    let index = index_of_placed(material, kind, parts, &placed.subs, maps);
+    let index = index_of_placed(material, kind, read.parts, &placed.subs, read.maps);
     Ok(FrontTable {
         index,
-        byte4,
+        byte4: read.byte4,
         length: size,
         ending,
         room: placed.room,
@@ -162,10 +223,8 @@ pub fn open_front_with<R: Input>(
     let read = read_front(alloc, &material, kind, all, input, &mut state)?;
     let place = state.place;
     if size < place {
-        return Err(ReadFault::Refused {
-            place: size,
-            reason: Reason::Truncated,
-        });
+        let (place, reason) = (size, Reason::Truncated);
+        return Err(ReadFault::Refused { place, reason });
     }
     let table = front_table(alloc, material, kind, size, read, place)?;
     Ok((table, place))

@@ -1,8 +1,6 @@
-ghost use Rattle.std.specs.Prelude.{◌≡◌, ◌+◌, ◌*◌, ◌≤◌, ◌<◌, ◌^◌, length, map, take, drop, OnOk, IfSome, IfNone, IsSomeAnd, IsTrue, ◌↔◌, None, IfOk};
-ghost use Rattle.szg_code.specs.Acceptance.{IsCode};
-ghost use Rattle.szg_block.specs.Block.{start};
+ghost use Rattle.std.specs.Prelude.{◌≡◌, ◌+◌, ◌*◌, ◌≤◌, ◌<◌, ◌^◌, length, map, OnOk, IfSome, IfNone, IsTrue, ◌↔◌, None, IfOk};
 ghost use Rattle.szg_block.specs.Subtable.{layout_of, IsHeaded};
-ghost use Rattle.szg_file.specs.File.{each, block_field, blocks_from, blocks_field};
+ghost use Rattle.szg_file.specs.File.{each, blocks_from, blocks_field};
 ghost use Rattle.szg_file.specs.Held.{subtable_of};
 ghost use Rattle.szg_file.specs.Reading.{Reading};
 ghost use Rattle.szg_file.specs.Grown.{HasCounted, begun_lengths, subs_lengths};
@@ -111,10 +109,8 @@ fn take_packed<R: Input>(
         let at = packed.len();
         take_more(&mut packed, block_bytes(sub), input, state)?;
         let Ok(()) = check_block_from(sub, size, n, before, &packed[at..]) else {
-            return Err(ReadFault::Refused {
-                place,
-                reason: Reason::Word,
-            });
+            let reason = Reason::Word;
+            return Err(ReadFault::Refused { place, reason });
         };
         before += values_in(lengths, n);
     }

@@ -5,7 +5,7 @@ ghost use Rattle.szg_code.specs.Acceptance.{IsCode};
 ghost use Rattle.szg_block.specs.Block.{start};
 ghost use Rattle.szg_block.specs.Sound.{SpellsNeeded};
 ghost use Rattle.szg_block.specs.Subtable.{layout_of, IsHeaded};
-ghost use Rattle.szg_file.specs.File.{each, block_field, blocks_from, blocks_field};
+ghost use Rattle.szg_file.specs.File.{each, block_field, blocks_field};
 ghost use Rattle.szg_file.specs.Placed.{since, whole_sub, Fits};
 ghost use Rattle.szg_file.specs.Reading.{Reading};
 ghost use Rattle.szg_file.specs.Streaming.{Accepted, values_if, wanted_values};
@@ -16,7 +16,7 @@ use crate::fault::{ReadFault, Reason};
 use crate::reading::blocks::{block_bytes, is_constant};
 use crate::reading::sink::ValueSink;
 use crate::reading::state::{ReaderState, append};
-use crate::reading::streaming::{pass_blocks_to, put_constant};
+use crate::reading::streaming::{put_constant, stream_blocks};
 use crate::reading::taking::{take_field, take_fill};
 use std::alloc::Global;
 use szg_block::{Sub, block_count, check_block_from};
@@ -95,8 +95,19 @@ fn pass_sub<R: Input, W, K: ValueSink<W>>(
     take_fill(alloc, 64, input, state)?;
     let first = state.place;
     input.expect(u64::from(block_count(&sub)) * block_bytes(&sub));
-    let block = &mut buffer[..size];
-    pass_blocks_to(alloc, block, &sub, slot, input, state, sink, out)?;
+    let wanted = sink.wants(slot.part, slot.side);
+    let mut values = Vec::new(alloc);
+    stream_blocks(
+        wanted,
+        &mut buffer[..size],
+        &mut values,
+        &sub,
+        slot.size,
+        input,
+        state,
+        sink,
+        out,
+    )?;
     Ok(PlacedSub { sub, first })
 }
 
@@ -138,11 +149,9 @@ pub(crate) fn pass_block<R: Input>(
 {
     let place = state.place;
     take_field(input, state, buffer)?;
+    let reason = Reason::Word;
     match check_block_from(sub, size, n, before, buffer) {
         Ok(()) => Ok(()),
-        Err(_) => Err(ReadFault::Refused {
-            place,
-            reason: Reason::Word,
-        }),
+        Err(_) => Err(ReadFault::Refused { place, reason }),
     }
 }

@@ -1,4 +1,4 @@
-ghost use Rattle.std.specs.Prelude.{◌≡◌, ◌≢◌, ◌+◌, ◌-◌, ◌*◌, ◌≤◌, ◌<◌, ◌^◌, length, map, nat_lt, nat_le, ◌&&◌, false, OnOk, IfOk};
+ghost use Rattle.std.specs.Prelude.{◌≡◌, ◌≢◌, ◌+◌, ◌-◌, ◌*◌, ◌≤◌, ◌<◌, ◌^◌, length, map, nat_le, ◌&&◌, false, OnOk, IfOk};
 ghost use Rattle.szg_code.specs.Acceptance.{IsCode};
 ghost use Rattle.szg_block.specs.Subtable.{IsHeaded};
 ghost use Rattle.szg_file.specs.Contents.{has_bit};
@@ -11,7 +11,7 @@ ghost use Rattle.szg_file.specs.WholeRead.{sub_lengths};
 
 use crate::begun::{Begun, Slot};
 use crate::fault::{ReadFault, Reason};
-use crate::flags::has_bit;
+use crate::lookup::has_bit;
 use crate::reading::state::{ReaderState, append};
 use crate::reading::taking::{
     read_byte, read_number, take_entries, take_field, take_numbers, take_spare,
@@ -95,8 +95,9 @@ fn read_packed_head<R: Input>(
     ensures growth { OnOk result (state.new.growth + 2 * state.old.place ≤ state.old.growth + 2 * state.new.place) }
     ensures grown { IfOk result (λ sub. HasCounted state.old state.new 0 (sub_lengths (subtable_of sub))) }
 {
-    let block_bits = read_block_bits(input, state)?;
-    let span_bits = read_span_bits(input, state)?;
+    // a block has at most 2^18 bytes, and a span 2 to 2^31 values
+    let block_bits = read_byte_within(0, 18, Reason::BlockBits, input, state)?;
+    let span_bits = read_byte_within(1, 31, Reason::SpanBits, input, state)?;
     let sizes = read_sizes(input, state)?;
     let lowest = read_lowest(alloc, sizes.min, sizes.max, input, state)?;
     let dict = read_dictionary(alloc, input, state)?;
@@ -115,45 +116,28 @@ fn read_packed_head<R: Input>(
     })
 }
 
-/// Reads the block bits: a block has 2^bits bytes, at most 2^18.
-fn read_block_bits<R: Input>(input: &mut R, state: &mut ReaderState) -> Result<u8, ReadFault>
+/// Reads a byte from `least` to `most`. Errors: `reason` if it is any other.
+fn read_byte_within<R: Input>(
+    least: u8,
+    most: u8,
+    reason: Reason,
+    input: &mut R,
+    state: &mut ReaderState,
+) -> Result<u8, ReadFault>
     requires { state.old.place < 2 ^ 62 }
-    ensures bits { Reading (byte_where (λ bits. nat_le bits 18) Reason.BlockBits) (λ bits. bits) state.old state.new R.Input input.old input.new result }
-    ensures most { IfOk result (λ bits. bits ≤ 18) }
+    ensures byte { Reading (byte_where (λ byte. nat_le least byte && nat_le byte most) reason) (λ byte. byte) state.old state.new R.Input input.old input.new result }
+    ensures least { IfOk result (λ byte. least ≤ byte) }
+    ensures most { IfOk result (λ byte. byte ≤ most) }
     ensures place { OnOk result (state.new.place ≡ state.old.place + 1) }
     ensures growth { OnOk result (state.new.growth ≡ state.old.growth) }
     ensures grown { OnOk result (HasCounted state.old state.new 0 0) }
 {
     let place = state.place;
-    let bits = read_byte(input, state)?;
-    if bits > 18 {
-        return Err(ReadFault::Refused {
-            place,
-            reason: Reason::BlockBits,
-        });
+    let byte = read_byte(input, state)?;
+    if byte < least || byte > most {
+        return Err(ReadFault::Refused { place, reason });
     }
-    Ok(bits)
-}
-
-/// Reads the span bits: each entry of the sparse index covers a span of 2^bits positions, 2 to 2^31.
-fn read_span_bits<R: Input>(input: &mut R, state: &mut ReaderState) -> Result<u8, ReadFault>
-    requires { state.old.place < 2 ^ 62 }
-    ensures bits { Reading (byte_where (λ bits. nat_lt 0 bits && nat_le bits 31) Reason.SpanBits) (λ bits. bits) state.old state.new R.Input input.old input.new result }
-    ensures some { IfOk result (λ bits. 1 ≤ bits) }
-    ensures most { IfOk result (λ bits. bits ≤ 31) }
-    ensures place { OnOk result (state.new.place ≡ state.old.place + 1) }
-    ensures growth { OnOk result (state.new.growth ≡ state.old.growth) }
-    ensures grown { OnOk result (HasCounted state.old state.new 0 0) }
-{
-    let place = state.place;
-    let bits = read_byte(input, state)?;
-    if bits == 0 || bits > 31 {
-        return Err(ReadFault::Refused {
-            place,
-            reason: Reason::SpanBits,
-        });
-    }
-    Ok(bits)
+    Ok(byte)
 }
 
 /// The sizes that follow the span bits in a header: the number of extra lengths, the number of blocks, and the
@@ -177,7 +161,7 @@ fn read_sizes<R: Input>(input: &mut R, state: &mut ReaderState) -> Result<HeadSi
     ensures growth { OnOk result (state.new.growth ≡ state.old.growth) }
     ensures grown { OnOk result (HasCounted state.old state.new 0 0) }
 {
-    let place = state.place + 5;
+    let (place, reason) = (state.place + 5, Reason::CodeLengths);
     let mut chunk = [0; 7];
     take_field(input, state, &mut chunk)?;
     let sizes = HeadSizes {
@@ -187,10 +171,7 @@ fn read_sizes<R: Input>(input: &mut R, state: &mut ReaderState) -> Result<HeadSi
         max: chunk[5],
     };
     if sizes.min == 0 || sizes.min > sizes.max || sizes.max > 32 {
-        return Err(ReadFault::Refused {
-            place,
-            reason: Reason::CodeLengths,
-        });
+        return Err(ReadFault::Refused { place, reason });
     }
     Ok(sizes)
 }

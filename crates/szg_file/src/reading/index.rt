@@ -1,4 +1,4 @@
-ghost use Rattle.std.specs.Prelude.{ℕ, Bool, false, IsTrue, suc, ◌≡◌, ◌+◌, ◌*◌, ◌≤◌, ◌<◌, ◌^◌, List, length, map, slice_get, OnOk, IfOk, IfSome, IfNone, None};
+ghost use Rattle.std.specs.Prelude.{ℕ, Bool, suc, ◌≡◌, ◌+◌, ◌*◌, ◌≤◌, ◌<◌, ◌^◌, List, length, map, slice_get, OnOk, IfOk, IfSome, IfNone, None};
 ghost use Rattle.szg_block.specs.Kept.{with_lengths, IsKeptOf};
 ghost use Rattle.szg_block.specs.Subtable.{layout_of, IsIndexed};
 ghost use Rattle.szg_file.specs.File.{each, sparse_field, index_check};
@@ -11,7 +11,7 @@ ghost use Rattle.szg_file.specs.Loading.{MayTake, TakesFew, TakesAs};
 ghost use Rattle.szg_file.specs.Format.{Format};
 ghost use Rattle.std.specs.List.{sum_by};
 
-use crate::begun::{Begun, Indexed, Measured};
+use crate::begun::{Begun, Measured};
 use crate::fault::{ReadFault, Reason};
 use crate::reading::kept::take_kept;
 use crate::reading::state::{ReaderState, append};
@@ -57,7 +57,7 @@ fn read_index<R: Input>(
     begun: Begun,
     input: &mut R,
     state: &mut ReaderState,
-) -> Result<Indexed, ReadFault>
+) -> Result<Measured, ReadFault>
     requires place { state.old.place < 2 ^ 60 + 2 ^ 40 }
     requires growth_bound { state.old.growth ≤ 2 * state.old.place + 2 ^ 15 }
     ensures index { Reading (sparse_field begun) (λ indexed. indexed) state.old state.new R.Input input.old input.new result }
@@ -76,7 +76,7 @@ fn read_index<R: Input>(
         index = state.place;
         *sparse = take_sparse(alloc, entry_count(slot.size, *span_bits), input, state)?;
     }
-    Ok(Indexed { slot, sub, index })
+    Ok(Measured { slot, sub, index })
 }
 
 /// Reads the sparse index of each subtable that is not constant, and then the block lengths of each. Keeps all of these if
@@ -102,7 +102,7 @@ pub(crate) fn read_lengths<R: Input>(
     take_each(
         alloc,
         indexed,
-        |alloc: Global, indexed: Indexed, input: &mut R, state: &mut ReaderState| {
+        |alloc: Global, indexed: Measured, input: &mut R, state: &mut ReaderState| {
             read_measured(alloc, indexed, all, input, state)
         },
         input,
@@ -114,7 +114,7 @@ pub(crate) fn read_lengths<R: Input>(
 /// the blocks that begin below the number of positions. A constant subtable has none.
 fn read_measured<R: Input>(
     alloc: Global,
-    indexed: Indexed,
+    indexed: Measured,
     all: bool,
     input: &mut R,
     state: &mut ReaderState,
@@ -126,7 +126,7 @@ fn read_measured<R: Input>(
     ensures growth { OnOk result (state.new.growth + 2 * state.old.place ≤ state.old.growth + 2 * state.new.place) }
     ensures grown { IfOk result (λ measured. HasCounted state.old state.new (sub_lengths indexed.subtable) (sub_lengths measured.subtable)) }
 {
-    let Indexed {
+    let Measured {
         slot,
         mut sub,
         index,
@@ -142,7 +142,7 @@ fn read_measured<R: Input>(
     } = &mut sub
     {
         let count = *blocks as u64 + *extra as u64;
-        let limit = kept_limit(all, slot.size);
+        let limit = if all { u64::MAX } else { slot.size };
         let kept = take_kept(alloc, count, limit, last_block(sparse), input, state)?;
         before_last = kept.before_last;
         *lengths = kept.lengths;
@@ -151,14 +151,6 @@ fn read_measured<R: Input>(
         return Err(ReadFault::Refused { place, reason });
     }
     Ok(Measured { slot, sub, index })
-}
-
-/// Returns a limit: the lengths of blocks that begin below it are kept. It is above all values if `all`, else it is `size`.
-fn kept_limit(all: bool, size: u64) -> u64
-    ensures above { IsTrue all → 2 ^ 63 ≤ result }
-    ensures size { all ≡ false → result ≡ size }
-{
-    if all { u64::MAX } else { size }
 }
 
 /// Returns the block of the last entry of a sparse index; 0 if there is none.

@@ -12,20 +12,6 @@ use std::alloc::Global;
 use szg_io::Input;
 
 impl KeptLengths {
-    /// Creates the state before the first length.
-    fn new(alloc: Global) -> KeptLengths
-        ensures kept { (limit last : ℕ) → IsKept limit last [] result }
-        ensures seen { result.seen ≡ 0 }
-        ensures empty { result.lengths.items ≡ [] }
-    {
-        KeptLengths {
-            lengths: Vec::new(alloc),
-            values: 0,
-            seen: 0,
-            before_last: 0,
-        }
-    }
-
     /// Passes the next length. `last` is the number of the block of the last sparse entry.
     fn pass(&mut self, length: u16, limit: u64, last: u64) -> Result<(), ReadFault>
         requires { self.old.seen < 2 ^ 40 }
@@ -119,7 +105,12 @@ pub(crate) fn take_kept<R: Input>(
     ensures growth { OnOk result (state.new.growth ≡ state.old.growth + 4 * count) }
     ensures grown { IfOk result (λ kept. HasCounted state.old state.new 0 (length kept.lengths.items)) }
 {
-    let mut kept = KeptLengths::new(alloc);
+    let mut kept = KeptLengths {
+        lengths: Vec::new(alloc),
+        values: 0,
+        seen: 0,
+        before_last: 0,
+    };
     let mut left = count;
     'chunks: while left > 0 {
         let chunk = left.min(CHUNK / 2);

@@ -10,7 +10,7 @@ ghost use Rattle.szg_file.specs.WholeRead.{map_lengths};
 
 use crate::begun::Begun;
 use crate::fault::ReadFault;
-use crate::flags::{flags_of, has_bit};
+use crate::lookup::{flags_of, has_bit};
 use crate::reading::state::{ReaderState, append};
 use crate::reading::taking::{read_byte, read_number, take_bytes, take_fill, take_numbers};
 use crate::table::Map;

@@ -7,8 +7,7 @@ ghost use Rattle.szg_file.specs.Format.{means, refuses};
 ghost use Rattle.szg_file.specs.Held.{part_of};
 ghost use Rattle.szg_file.specs.Parts.{part_with, slots_with};
 ghost use Rattle.szg_file.specs.Reading.{Reading};
-ghost use Rattle.szg_file.specs.Grown.{HasCounted, parts_lengths};
-ghost use Rattle.szg_file.specs.Grown.{part_length};
+ghost use Rattle.szg_file.specs.Grown.{HasCounted, part_length, parts_lengths};
 
 use crate::begun::Slot;
 use crate::fault::{ReadFault, Reason};

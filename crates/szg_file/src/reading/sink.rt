@@ -1,11 +1,10 @@
 //! Where the values of a table go while its file is read.
 ghost use Rattle.std.specs.Prelude.{◌≡◌, ℕ, List, Bool, OnOk, replicate};
 
-/// A sink takes no more values: its output failed, or an allocation was refused. The sink itself knows which.
-#[derive(Debug, Clone, Copy, PartialEq, Eq)]
-pub struct SinkFault;
+use szg_io::DeviceFault;
 
-/// Accepts the values of subtables in order. What it makes of them goes to `out`.
+/// Accepts the values of subtables in order. What it makes of them goes to `out`. After a fault it takes no more values: its
+/// output failed, or an allocation was refused. The sink itself knows which.
 pub trait ValueSink<W> {
     /// Whether it wants the values of a part and side. No call changes it.
     ghost wanted: { Self → ℕ → ℕ → Bool };
@@ -18,12 +17,12 @@ pub trait ValueSink<W> {
         ensures { result ≡ wanted self.now part side };
 
     /// Accepts the next values.
-    fn put(&mut self, values: &[u16], out: &mut W) -> Result<(), SinkFault>
+    fn put(&mut self, values: &[u16], out: &mut W) -> Result<(), DeviceFault>
         ensures accepted { OnOk result (accepts self.old out.old values.now self.new out.new) }
         ensures stays { wanted self.new ≡ wanted self.old };
 
     /// Accepts the same value `count` times.
-    fn put_same(&mut self, value: u16, count: u64, out: &mut W) -> Result<(), SinkFault>
+    fn put_same(&mut self, value: u16, count: u64, out: &mut W) -> Result<(), DeviceFault>
         ensures accepted { OnOk result (accepts self.old out.old (replicate count value) self.new out.new) }
         ensures stays { wanted self.new ≡ wanted self.old };
 }
@@ -43,11 +42,11 @@ impl<W> ValueSink<W> for NoSink {
         false
     }
 
-    fn put(&mut self, _values: &[u16], _out: &mut W) -> Result<(), SinkFault> {
+    fn put(&mut self, _values: &[u16], _out: &mut W) -> Result<(), DeviceFault> {
         Ok(())
     }
 
-    fn put_same(&mut self, _value: u16, _count: u64, _out: &mut W) -> Result<(), SinkFault> {
+    fn put_same(&mut self, _value: u16, _count: u64, _out: &mut W) -> Result<(), DeviceFault> {
         Ok(())
     }
 }

@@ -6,7 +6,7 @@ ghost use Rattle.szg_file.specs.Reading.{Reading, start_field};
 ghost use Rattle.szg_file.specs.Grown.{HasCounted};
 
 use crate::fault::{ReadFault, Reason};
-use crate::flags::has_bit;
+use crate::lookup::has_bit;
 use crate::reading::state::ReaderState;
 use crate::reading::taking::{read_byte, take_field};
 use szg_io::Input;
@@ -56,23 +56,17 @@ pub(crate) fn read_start<R: Input>(
     let mut chunk = [0; 4];
     take_field(input, state, &mut chunk)?;
     if chunk != magic(kind) {
-        return Err(ReadFault::Refused {
-            place: 0,
-            reason: Reason::Magic,
-        });
+        let (place, reason) = (0, Reason::Magic);
+        return Err(ReadFault::Refused { place, reason });
     }
     let byte = read_byte(input, state)?;
     if !splits_as(material, kind, byte) {
-        return Err(ReadFault::Refused {
-            place: 4,
-            reason: Reason::SplitBit,
-        });
+        let (place, reason) = (4, Reason::SplitBit);
+        return Err(ReadFault::Refused { place, reason });
     }
     if !pawns_as(material, byte) {
-        return Err(ReadFault::Refused {
-            place: 4,
-            reason: Reason::PawnBit,
-        });
+        let (place, reason) = (4, Reason::PawnBit);
+        return Err(ReadFault::Refused { place, reason });
     }
     Ok(byte)
 }

@@ -1,6 +1,5 @@
 //! The values of blocks, which a sink accepts while the blocks are read.
 ghost use Rattle.std.specs.Prelude.{◌≡◌, ◌+◌, ◌*◌, ◌≤◌, ◌<◌, ◌^◌, Err, IfSome, IsSomeAnd, None, OnErr, OnOk, length, take};
-ghost use Rattle.szg_code.specs.Acceptance.{IsCode};
 ghost use Rattle.szg_block.specs.Block.{block_values, needed, start};
 ghost use Rattle.szg_block.specs.Expansion.{joined_values};
 ghost use Rattle.szg_block.specs.Sound.{SpellsNeeded};
@@ -19,7 +18,6 @@ use crate::reading::dropping::pass_block;
 use crate::reading::sink::ValueSink;
 use crate::reading::state::ReaderState;
 use crate::typed::code_fits;
-use std::alloc::Global;
 use szg_block::{Sub, decode_block, values_in};
 use szg_io::Input;
 use szg_values::Kind;
@@ -50,9 +48,7 @@ fn put_block<W, K: ValueSink<W>>(
         return Ok(());
     }
     values.clear();
-    if decode_block(sub, size, n, before, block, values).is_err() {
-        return Err(ReadFault::Memory);
-    }
+    decode_block(sub, size, n, before, block, values)?;
     match sink.put(values, out) {
         Ok(()) => Ok(()),
         Err(_) => Err(ReadFault::Memory),
@@ -61,7 +57,7 @@ fn put_block<W, K: ValueSink<W>>(
 
 /// Reads the blocks of a subtable in order, each with its check, into a buffer of a block's length. If their values are
 /// wanted, decodes each block into `values` and hands its values to a sink.
-fn stream_blocks<R: Input, W, K: ValueSink<W>>(
+pub(crate) fn stream_blocks<R: Input, W, K: ValueSink<W>>(
     wanted: bool,
     buffer: &mut [u8],
     values: &mut Vec<u16>,
@@ -100,45 +96,6 @@ fn stream_blocks<R: Input, W, K: ValueSink<W>>(
         before += values_in(lengths, n);
     }
     Ok(())
-}
-
-/// Reads the blocks of a subtable in order, each with its check. Their values are handed to the sink, if it wants
-/// those of this part and side.
-pub(crate) fn pass_blocks_to<R: Input, W, K: ValueSink<W>>(
-    alloc: Global,
-    buffer: &mut [u8],
-    sub: &Sub,
-    slot: Slot,
-    input: &mut R,
-    state: &mut ReaderState,
-    sink: &mut K,
-    out: &mut W,
-) -> Result<(), ReadFault>
-    requires place { state.old.place < 2 ^ 61 }
-    requires room { IfSome (layout_of sub.now) (λ layout. length buffer.old ≡ 2 ^ layout.block_bits) }
-    requires short { length buffer.old ≤ 2 ^ 18 }
-    requires headed { IsHeaded sub.now }
-    ensures blocks { IfSome (layout_of sub.now) (λ layout. Reading (blocks_from layout slot.size 0 layout.blocks) (λ _. since (R.moved input.old) (R.moved input.new)) state.old state.new R.Input input.old input.new result) }
-    ensures count { IfSome (layout_of sub.now) (λ layout. OnOk result (state.new.place ≡ state.old.place + layout.blocks * 2 ^ layout.block_bits)) }
-    ensures place { OnOk result (state.new.place ≤ state.old.place + 2 ^ 50) }
-    ensures growth { OnOk result (state.new.growth ≡ state.old.growth) }
-    ensures accepted { IfSome (layout_of sub.now) (λ layout. OnOk result (Accepted K.accepts (values_if (K.wanted sink.old slot.part slot.side) (joined_values layout (since (R.moved input.old) (R.moved input.new)) slot.size)) sink.old out.old sink.new out.new)) }
-    ensures wanted { K.wanted sink.new ≡ K.wanted sink.old }
-{
-    let wanted = sink.wants(slot.part, slot.side);
-    let mut values = Vec::new(alloc);
-    let size = slot.size;
-    stream_blocks(
-        wanted,
-        buffer,
-        &mut values,
-        sub,
-        size,
-        input,
-        state,
-        sink,
-        out,
-    )
 }
 
 /// Hands the values of a constant subtable to the sink, if it wants those of this part and side. Errors: `Memory`;

@@ -33,10 +33,8 @@ pub(crate) fn take_field<R: Input>(
     };
     if got < chunk.len() {
         let place = state.place + got as u64;
-        return Err(ReadFault::Refused {
-            place,
-            reason: Reason::Truncated,
-        });
+        let reason = Reason::Truncated;
+        return Err(ReadFault::Refused { place, reason });
     }
     state.place += got as u64;
     Ok(())
@@ -94,9 +92,7 @@ fn take_chunk<R: Input>(
 {
     grow(list, size, state)?;
     let at = list.len();
-    if list.resize(at + size, 0).is_err() {
-        return Err(ReadFault::Memory);
-    }
+    list.resize(at + size, 0)?;
     take_field(input, state, &mut list[at..])?;
     Ok(())
 }
@@ -166,9 +162,7 @@ pub(crate) fn take_spare<R: Input>(
     take_field(input, state, &mut chunk[..size])?;
     let mut fill = mem::replace(&mut state.fill, Vec::new(alloc));
     grow(&mut fill, size, state)?;
-    if fill.extend_from_slice(&chunk[..size]).is_err() {
-        return Err(ReadFault::Memory);
-    }
+    fill.extend_from_slice(&chunk[..size])?;
     state.fill = fill;
     Ok(())
 }
@@ -214,9 +208,7 @@ pub(crate) fn append_numbers(
     let count = rows.len() / 2;
     grow(list, count, state)?;
     let at = list.len();
-    if list.resize(at + count, 0).is_err() {
-        return Err(ReadFault::Memory);
-    }
+    list.resize(at + count, 0)?;
     LittleEndian::read_u16_into(rows, &mut list[at..]);
     Ok(())
 }

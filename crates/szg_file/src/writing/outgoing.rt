@@ -23,21 +23,6 @@ pub struct Outgoing<'a> {
     pub fill: &'a [u8],
 }
 
-impl<'a> Outgoing<'a> {
-    /// Creates the state before the first byte of a file with these padding bytes.
-    pub fn new(fill: &'a [u8]) -> Outgoing<'a>
-        ensures out { result.out ≡ 0 }
-        ensures held { result.held.items ≡ [] }
-        ensures fill { result.fill.now ≡ fill.now }
-    {
-        Outgoing {
-            out: 0,
-            held: ArrayVec::new(),
-            fill,
-        }
-    }
-}
-
 /// Writes `chunk` after the first `out` bytes; returns the new total. Errors: the total when the device failed.
 fn give<W: Output>(chunk: &[u8], output: &mut W, out: u64) -> Result<u64, WriteFault>
     ensures ok { IfOk result (λ now. now ≡ (out + length chunk.now) % 2 ^ 64) }
@@ -142,29 +127,7 @@ fn write_each<T, W: Output, F: Fn(&T, &mut W, &mut Outgoing) -> Result<(), Write
     Ok(())
 }
 
-/// Writes a two-byte number, least byte first.
-fn put_u16<W: Output>(
-    number: u16,
-    output: &mut W,
-    outgoing: &mut Outgoing,
-) -> Result<(), WriteFault>
-    ensures { Writing (written (bytes_of 2 number) ∷ []) outgoing.old outgoing.new W.Output output.old output.new result }
-{
-    put(&number.to_le_bytes(), output, outgoing)
-}
-
-/// Writes a four-byte number, least byte first.
-fn put_u32<W: Output>(
-    number: u32,
-    output: &mut W,
-    outgoing: &mut Outgoing,
-) -> Result<(), WriteFault>
-    ensures { Writing (written (bytes_of 4 number) ∷ []) outgoing.old outgoing.new W.Output output.old output.new result }
-{
-    put(&number.to_le_bytes(), output, outgoing)
-}
-
-/// Writes two-byte numbers.
+/// Writes two-byte numbers, least byte first.
 pub(crate) fn put_numbers<W: Output>(
     list: &[u16],
     output: &mut W,
@@ -174,7 +137,7 @@ pub(crate) fn put_numbers<W: Output>(
 {
     write_each(
         list,
-        |number, output, outgoing| put_u16(*number, output, outgoing),
+        |number, output, outgoing| put(&number.to_le_bytes(), output, outgoing),
         output,
         outgoing,
     )
@@ -201,8 +164,8 @@ fn put_entry<W: Output>(
 ) -> Result<(), WriteFault>
     ensures { Writing (written (bytes_of 4 entry.now.block ++ bytes_of 2 entry.now.offset) ∷ []) outgoing.old outgoing.new W.Output output.old output.new result }
 {
-    put_u32(entry.block, output, outgoing)?;
-    put_u16(entry.offset, output, outgoing)
+    put(&entry.block.to_le_bytes(), output, outgoing)?;
+    put(&entry.offset.to_le_bytes(), output, outgoing)
 }
 
 /// Writes a sparse index.

@@ -3,12 +3,11 @@ ghost use Rattle.std.specs.Prelude.{◌≡◌, ◌<◌, ◌%◌, ◌^◌, ◌++�
 ghost use Rattle.szg_file.specs.Contents.{bytes_of};
 ghost use Rattle.szg_file.specs.FileOf.{Section, written, padding, spare, part_sections, head_sections, list_sections, map_sections, maps_sections, sparse_sections, lengths_sections, blocks_sections, sections};
 ghost use Rattle.szg_file.specs.Held.{part_of, sparse_of, subtable_of, map_of};
-ghost use Rattle.szg_file.specs.Sections.{Took, TakesAs, contents_in, code_sections, dictionary_sections};
+ghost use Rattle.szg_file.specs.Sections.{Took, TakesAs, contents_in};
 
 use crate::reading::start::magic;
 use crate::table::{Map, PartBytes};
 use szg_block::{Entry, Sub};
-use szg_code::Code;
 use szg_pairs::Dict;
 use szg_values::{Kind, Material};
 
@@ -108,23 +107,7 @@ fn put_part<W, S: SectionSink<W>>(part: &PartBytes, sink: &mut S, out: &mut W)
 
 // ---- headers
 
-fn put_code<W, S: SectionSink<W>>(code: &Code, sink: &mut S, out: &mut W)
-    ensures { Took S.takes (code_sections code.now) sink.old out.old sink.new out.new }
-{
-    sink.bytes(&[code.max()], out);
-    sink.bytes(&[code.min()], out);
-    sink.numbers(code.lowest(), out);
-}
-
-fn put_dictionary<W, S: SectionSink<W>>(dict: &Dict, sink: &mut S, out: &mut W)
-    ensures { Took S.takes (dictionary_sections dict.now) sink.old out.old sink.new out.new }
-{
-    let count = dict.symbols();
-    sink.bytes(&count.to_le_bytes(), out);
-    sink.symbols(dict, out);
-    sink.spare((count % 2) as u64, out);
-}
-
+/// Hands the header of a subtable: its flags and one byte of a constant one, else its sizes, its code and its dictionary.
 fn put_head<W, S: SectionSink<W>>(sub: &Sub, sink: &mut S, out: &mut W)
     ensures { Took S.takes (head_sections (subtable_of sub.now)) sink.old out.old sink.new out.new }
 {
@@ -148,8 +131,13 @@ fn put_head<W, S: SectionSink<W>>(sub: &Sub, sink: &mut S, out: &mut W)
             sink.bytes(&[*span_bits], out);
             sink.bytes(&[*extra], out);
             sink.bytes(&blocks.to_le_bytes(), out);
-            put_code(code, sink, out);
-            put_dictionary(dict, sink, out);
+            sink.bytes(&[code.max()], out);
+            sink.bytes(&[code.min()], out);
+            sink.numbers(code.lowest(), out);
+            let count = dict.symbols();
+            sink.bytes(&count.to_le_bytes(), out);
+            sink.symbols(dict, out);
+            sink.spare((count % 2) as u64, out);
         }
     }
 }
@@ -172,24 +160,16 @@ fn put_wide_list<W, S: SectionSink<W>>(list: &Vec<u16>, sink: &mut S, out: &mut 
     sink.numbers(list, out);
 }
 
-fn put_lists<W, S: SectionSink<W>>(map: &Map, sink: &mut S, out: &mut W)
-    ensures { Took S.takes (map_sections (Some (map_of map.now))) sink.old out.old sink.new out.new }
-{
-    match map {
-        Map::Bytes(lists) => put_each(lists, put_short_list, sink, out),
-        Map::Wide(lists) => {
-            sink.padding(2, out);
-            put_each(lists, put_wide_list, sink, out);
-        }
-    }
-}
-
 fn put_map<W, S: SectionSink<W>>(map: &Option<Map>, sink: &mut S, out: &mut W)
     ensures { Took S.takes (map_sections (option_map map_of map.now)) sink.old out.old sink.new out.new }
 {
     match map {
         None => {}
-        Some(map) => put_lists(map, sink, out),
+        Some(Map::Bytes(lists)) => put_each(lists, put_short_list, sink, out),
+        Some(Map::Wide(lists)) => {
+            sink.padding(2, out);
+            put_each(lists, put_wide_list, sink, out);
+        }
     }
 }
 

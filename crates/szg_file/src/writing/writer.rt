@@ -7,6 +7,7 @@ use crate::writing::outgoing::{
     Outgoing, put, put_numbers, put_padding, put_spare, put_sparse, put_symbols,
 };
 use crate::writing::sections::SectionSink;
+use arrayvec::ArrayVec;
 use szg_block::Entry;
 use szg_io::Output;
 use szg_pairs::Dict;
@@ -27,8 +28,13 @@ impl<'a> Writer<'a> {
         ensures fill { result.outgoing.fill.now ≡ fill.now }
         ensures well { result.result ≡ Ok tt }
     {
+        let outgoing = Outgoing {
+            out: 0,
+            held: ArrayVec::new(),
+            fill,
+        };
         Writer {
-            outgoing: Outgoing::new(fill),
+            outgoing,
             result: Ok(()),
         }
     }

@@ -11,7 +11,7 @@ use Rattle.szg_values.specs.Placement.{PlacedMan, Board, AreOnBoard, placement_f
 use Rattle.szg_values.specs.declared.Color.{Color}
 use Rattle.szg_values.specs.declared.Color.TheVariants.{White}
 use Rattle.szg_count.specs.Leads.{is_touching}
-use Rattle.szg_count.specs.Groups.{IsPart, Nibbles, order_fault, groups_of, lead_length, is_rearrangement, counted}
+use Rattle.szg_count.specs.Groups.{Nibbles, order_fault, groups_of, lead_length, is_rearrangement, counted}
 use Rattle.szg_count.specs.Laws.{IsIn}
 use Rattle.szg_count.specs.Radix.{index_with}
 use Rattle.szg_count.proofs.Pawns.{peopled, lead_length-fits}
@@ -276,9 +276,6 @@ known_by {m} {board} {list} mat e inside h found = record {
   men = found;
 }
 
-pub stood_slice : {m : Sides} {board : Board} {slice items : List CodedMan} → IsKnown m board → slice ≡ items → items ≡ pieces_of m board → IsStood m (man_codes m) slice
-stood_slice {m} {board} k e f = subst (λ (l : List CodedMan). IsStood m (man_codes m) l) (sym (e ∙ f)) (stood_first m board k)
-
 pub requested_by : {m : Sides} {kind : Kind} {board : Board} {slice items : List CodedMan} {part side queried : ℕ} {exchanged : Bool} {mover : Color} → IsKnown m board → slice ≡ items → items ≡ pieces_of m board → length items ≤ 6 →
     exchanged ≡ is_exchanged m board → mover ≡ board.mover → queried ≡ cond (is_color White (exchanged_color exchanged mover)) 0 1 → part ≡ part_of m slice → side ≡ cond (is_dtz kind) 0 queried → IsQuery m kind board items part side queried
 requested_by {m} {kind} {board} {slice} {items} {part} {side} {queried} {exchanged} {mover} k s i few x v a p z = record {
@@ -309,43 +306,9 @@ found_requested {l} {board} {pieces} {part} {side} h a o =
     zero_if : Bool → ℕ → ℕ
     zero_if b n = cond b 0 n
 
--- the part and side of a query exist
-pub record IsThere (l : Layout) (part side : ℕ) : Type 0 where
-  pub has_part : part < length l.parts
-  pub is_part : IsPart l.material part
-  pub two : side < 2
-  pub few : length (nibbles_at l part side).men ≤ 6
-  pub ordered : order_fault l.material (nibbles_at l part side) ≡ None
-
-sides_two : (dtz symmetric : Bool) (side : ℕ) → side < cond dtz 1 (cond symmetric 1 2) → side < 2
-sides_two true b side h = omega (arith, h)
-sides_two false true side h = omega (arith, h)
-sides_two false false side h = h
-
 pub few_men : (sides : Sides) (n : Nibbles) → IsMaterial sides → order_fault sides n ≡ None → length n.men ≤ 6
 few_men sides n m o =
     let ok = ordered sides n o in let len = rearranged_length n.men (man_codes sides) ok.pieces in let p = (peopled sides m).few in omega (arith, len, p)
-
-pub there_of : (l : Layout) (part side : ℕ) → IsLayout l → part < part_count l → side < side_count l → IsThere l part side
-there_of l part side h p s =
-    let many = h.parts in let none = order_none l part side h p s in record {
-      has_part = omega (arith, many, p);
-      is_part = p;
-      two = sides_two (is_dtz l.kind) (is_symmetric l.material) side s;
-      few = few_men l.material (nibbles_at l part side) h.material none;
-      ordered = none;
-    }
-
-pub there_requested : {l : Layout} {board : Board} {pieces : List CodedMan} {part side queried : ℕ} → IsLayout l → IsQuery l.material l.kind board pieces part side queried → IsThere l part side
-there_requested {l} {board} {pieces} {part} {side} h a =
-    let f = found_requested {n = nibbles_at l part side} h a refl in
-    there_of l part side h (subst (λ (p : ℕ). p < part_count l) (sym a.part_is) (part_below l.material (pieces_of l.material board)))
-    (subst (λ (k : ℕ). k < side_count l) (sym f.side_is) (side_below l board))
-
-pub there_in : {x : Index} {m : Sides} (part side : ℕ) → IsIndex x → m ≡ x.material → IsMaterial m → IsSome (slot_in x part side) → IsThere (numbering_in x) part side
-there_in {x} part side a e h some =
-    let r = slot_below x part side a some in
-    there_of (numbering_in x) part side (parts_numbering x (subst (λ (m : Sides). IsMaterial m) e h) a.parts_are_valid) r.0 r.1
 
 pub ordered_found : {l : Layout} {board : Board} {part side queried : ℕ} {n : Nibbles} → IsFound l board part side queried n → order_fault l.material n ≡ None
 ordered_found {l} {board} f =
@@ -380,17 +343,6 @@ pub record IsLed (l : Layout) (board : Board) (part side queried : ℕ) (n : Nib
   pub lead_is : lead ≡ take (lead_length l.material) n.men
   pub normal_is : normal ≡ normal_pieces l.material lead (pieces_of l.material board)
   pub leads_is : leads ≡ lead_squares l.material lead normal
-
-pub led_of : {l : Layout} {board : Board} {part side queried : ℕ} {n : Nibbles} {items : List CodedMan} {regular : Bool} {lead leads leads' : List ℕ} {normal slice : List CodedMan} → IsFound l board part side queried n →
-    regular ≡ is_regular l.material (groups_of l.material n.men) → regular ≡ true → items ≡ pieces_of l.material board → lead ≡ take (lead_length l.material) n.men →
-    normal ≡ normal_pieces l.material lead items → slice ≡ normal → leads ≡ lead_squares l.material lead slice → leads' ≡ leads → IsLed l board part side queried n lead leads' normal
-led_of {l} {board} {part} {side} {queried} {n} {items} {regular} {lead} f r e i s m q g h = record {
-  found = f;
-  regular = regular_found f r e;
-  lead_is = s;
-  normal_is = m ∙ ap (normal_pieces l.material lead) i;
-  leads_is = h ∙ g ∙ ap (lead_squares l.material lead) q;
-}
 
 touching_led : {l : Layout} {board : Board} {part side queried : ℕ} {n : Nibbles} {lead leads : List ℕ} {normal : List CodedMan} {touching b : Bool} → IsLed l board part side queried n lead leads normal →
     touching ≡ (not (has_pawns l.material) && lead_length l.material == 2 && is_touching (slice_index leads 0) (slice_index leads 1)) → touching ≡ b → is_kings_touching l.material (normal_of l board).squares ≡ b

@@ -5,7 +5,7 @@ use Rattle.std.specs.List.{zip, concat}
 use Rattle.std.proofs.lemmas.Bool.{cases_Bool, and_parts, eqb-true}
 use Rattle.std.proofs.lemmas.List.{length-map, length-take-le}
 use Rattle.std.proofs.lemmas.Option.{unwrap_or-slice_get}
-use Rattle.std.proofs.lemmas.List.{take_more, take_at, drop_at}
+use Rattle.std.proofs.lemmas.List.{take_more}
 use Rattle.std.proofs.lemmas.List.Sums.{sum_by-cons}
 use Rattle.szg_values.specs.Material.{Sides, IsMaterial, has_pawns}
 use Rattle.szg_count.specs.Leads.{rank_in}
@@ -17,7 +17,7 @@ use Rattle.szg_count.proofs.Sizes.{size_below}
 use Rattle.szg_count.proofs.RanksInLists.{rank_in-slice_get}
 use Rattle.szg_count.specs.Laws.{IsIn, AllDiffer}
 use Rattle.szg_count.specs.Radix.{index_with}
-use Rattle.szg_count.proofs.InSlots.{squares_before, squares_here, group_is, groups_many, groups_are}
+use Rattle.szg_count.proofs.InSlots.{group_is, groups_many, groups_are}
 use Rattle.szg_place.specs.Spots.{ordered_sets, ranks_in_lists}
 use Rattle.szg_place.specs.Known.{AreGrouped, ComesAfterGroups}
 use Rattle.szg_place.specs.Ranks.{EachInList}
@@ -231,14 +231,6 @@ pub record IsSplit (sides : Sides) (part : ℕ) (n : Nibbles) (sets : List (List
   pub taken_is : taken ≡ concat (take i sets)
   pub set_is : set ≡ get_or sets i []
 
-pub split_of : {sides : Sides} {part : ℕ} {n : Nibbles} {sets : List (List ℕ)} {i first size : ℕ} {group : Group} {squares taken rest set : List ℕ} → IsStep sides part n sets i group → squares ≡ concat sets →
-    first ≡ group.first → size ≡ group.length → taken ≡ take first squares → rest ≡ drop first squares → set ≡ take size rest → IsSplit sides part n sets i group taken set
-split_of {sets = sets} {i} {first} {size} s e f z a b d = record {
-  step = s;
-  taken_is = a ∙ ap (λ (l : List ℕ). take first l) e ∙ squares_before sets i first s.count (f ∙ s.first);
-  set_is = d ∙ ap (λ (l : List ℕ). take size l) (b ∙ ap (λ (l : List ℕ). drop first l) e) ∙ squares_here sets i first size s.count (f ∙ s.first) (z ∙ s.size);
-}
-
 pub gained_at : {sides : Sides} {part : ℕ} {n : Nibbles} {sets : List (List ℕ)} {i : ℕ} {group : Group} {taken set : List ℕ} (rank index : ℕ) → IsPart sides part → IsSplit sides part n sets i group taken set →
     slice_get (ordered_sets sides part (take i sets) (length set)) rank ≡ Some set →
     index + index_after sides part sets (counted sides part n).factors i ≡ index_after sides part sets (counted sides part n).factors 0 →
@@ -252,21 +244,6 @@ pub room_at : {sides : Sides} {part : ℕ} {n : Nibbles} {sets : List (List ℕ)
     index + index_after sides part sets (counted sides part n).factors i ≡ index_after sides part sets (counted sides part n).factors 0 → index + rank * group.factor < 2 ^ 33
 room_at {sides} {part} {n} {sets} rank index m g l c e h =
     let k = gained_at rank index g.has_part c e h in let f = index_fits sides part n sets m g.has_part g.ordered l in omega (arith, k, f)
-
-pub index_small : (sides : Sides) (part : ℕ) (n : Nibbles) (sets : List (List ℕ)) → IsMaterial sides → IsPart sides part → order_fault sides n ≡ None → EachInList sides part [] (groups_of sides n.men) sets →
-    index_with (ranks_in_lists sides part [] sets) (counted sides part n).factors < 2 ^ 33
-index_small sides part n sets m p o l =
-    let f = index_fits sides part n sets m p o l in let a = index_start sides part sets (counted sides part n).factors in omega (arith, f, a)
-
--- the squares after those of earlier groups, once a group's squares are appended
-pub split_after : {sides : Sides} {part : ℕ} {n : Nibbles} {sets : List (List ℕ)} {i first : ℕ} {group : Group} {squares taken set own : List ℕ} → IsStep sides part n sets i group →
-    squares ≡ concat (take i sets) ++ set → set ≡ get_or sets i [] → first ≡ group.first → taken ≡ take first squares → own ≡ drop first squares → IsSplit sides part n sets i group taken own
-split_after {sets = sets} {i} {first} {group} {squares} {taken} {set} {own} s e f g a b =
-    let k : length (concat (take i sets)) ≡ first = sym s.first ∙ sym g in record {
-      step = s;
-      taken_is = a ∙ ap (λ (l : List ℕ). take first l) e ∙ take_at (concat (take i sets)) set first k;
-      set_is = b ∙ ap (λ (l : List ℕ). drop first l) e ∙ drop_at (concat (take i sets)) set first k ∙ f;
-    }
 
 pub split_first : {sides : Sides} {part : ℕ} {n : Nibbles} {sets : List (List ℕ)} {group : Group} {set : List ℕ} → IsStep sides part n sets 0 group → set ≡ get_or sets 0 [] → IsSplit sides part n sets 0 group [] set
 split_first s e = record { step = s; taken_is = refl; set_is = e }

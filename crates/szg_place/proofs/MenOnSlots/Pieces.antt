@@ -113,13 +113,6 @@ just c x = none_more (x == c) where
   none_more true = refl
   none_more false = refl
 
--- the number of squares with a man of a code is the number of these men
-pub code_count : (code : ℕ) (pieces : List CodedMan) → AllDiffer (map (λ (p : CodedMan). p.square) pieces) → ((p : CodedMan) → IsIn p pieces → p.square < 64) →
-    length (squares_with (code ∷ []) pieces squares_down) ≡ count_by (λ (p : CodedMan). p.code == code) pieces
-code_count code pieces d h =
-    squares_count (code ∷ []) pieces squares_down AllDiffer-squares_down d (λ q j c. IsIn-squares_down q.square (h q j))
-    ∙ count-same (λ (q : CodedMan). contains (code ∷ []) q.code) (λ (q : CodedMan). q.code == code) pieces (λ q j. just code q.code)
-
 -- the square of the only man of its code
 pub only_square : (sides : Sides) (men : List ℕ) (pieces : List CodedMan) (p : CodedMan) → IsStood sides men pieces → IsIn p pieces → count_of p.code men ≡ 1 →
     squares_with (p.code ∷ []) pieces squares_down ≡ p.square ∷ []

@@ -1,7 +1,8 @@
 -- The numbers of free squares: how many free squares are below each.
-use Rattle.std.proofs.Common.{◌≡◌, ℕ, zero, suc, ◌+◌, ◌-◌, ◌<◌, ◌≤◌, inl, inr, List, [], ◌∷◌, ◌++◌, length, refl, sym, ap, ◌∙◌, subst, Bool, true, false, cond, arith}
+use Rattle.std.proofs.Common.{◌≡◌, ℕ, zero, suc, ◌+◌, ◌-◌, ◌*◌, ◌<◌, ◌≤◌, inl, inr, List, [], ◌∷◌, ◌++◌, length, refl, sym, ap, ◌∙◌, subst, Bool, true, false, cond, arith}
 use Rattle.std.specs.Prelude.{slice_index, reverse, filter, nat_lt}
 use Rattle.std.specs.List.{range_with_len}
+use mir.Val.{bool_byte}
 use Rattle.std.proofs.Math.Bool.{not}
 use Rattle.std.proofs.lemmas.Bool.{cases_Bool, cases_lt, ltb-true, lt-ltb}
 use Rattle.std.proofs.lemmas.Bool.Decides.{eqb_tells}
@@ -198,6 +199,15 @@ base_of pawns = cond pawns pawn_squares squares_down
 
 abbrev pub lowest : Bool → ℕ
 lowest pawns = cond pawns 8 0
+
+pub lowest_is : (pawns : Bool) (n : ℕ) → n ≡ bool_byte pawns → 8 * n ≡ lowest pawns
+lowest_is true n e = ap (λ (k : ℕ). 8 * k) e
+lowest_is false n e = ap (λ (k : ℕ). 8 * k) e
+
+-- the square after the last one
+pub end_is : (pawns : Bool) (low : ℕ) → low ≡ lowest pawns → 64 - low ≡ cond pawns 56 64
+end_is true low e = ap (λ (k : ℕ). 64 - k) e
+end_is false low e = ap (λ (k : ℕ). 64 - k) e
 
 base_range : (pawns : Bool) → base_of pawns ≡ reverse (range_with_len (lowest pawns) (cond pawns 48 64))
 unfolding pawn_squares squares_down squares

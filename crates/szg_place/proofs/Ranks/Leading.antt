@@ -10,7 +10,7 @@ use Rattle.szg_count.specs.Leads.{triples, king_pairs, lead_pawn_sets, without}
 use Rattle.szg_count.specs.Groups.{IsPart, lead_sets, has_other_pawns}
 use Rattle.szg_place.specs.Spots.{ordered_sets}
 use Rattle.szg_place.proofs.Ranks.FreeSquares.{base_of}
-use Rattle.szg_count.specs.Laws.{IsIn, AllDiffer}
+use Rattle.szg_count.specs.Laws.{IsIn}
 use Rattle.szg_place.specs.Known.{ComesAfterGroups}
 use Rattle.szg_count.proofs.Pawns.{some_lead}
 use Rattle.szg_count.proofs.LeadSets.{lead_sets_contain_filtered, triples_set, kings_set}
@@ -104,7 +104,3 @@ lists_lead {sides} {part} {before = before} size h e = ordered_lead sides part b
 pub inside_free : {sides : Sides} {part number : ℕ} {taken : List ℕ} {before : List (List ℕ)} {pawns : Bool} → ComesAfterGroups sides part number taken before → (number ≡ 0 → ⊥) →
     pawns ≡ (has_other_pawns sides && number == 1) → (x : ℕ) → IsIn x taken → IsIn x (base_of pawns)
 inside_free h some e x i = subst (λ (b : Bool). IsIn x (base_of b)) (sym e) (h.inside (omega (arith, some)) x i)
-
-pub after_by : {sides : Sides} {part number : ℕ} {taken : List ℕ} {before : List (List ℕ)} → IsPart sides part → taken ≡ concat before → number ≡ length before → AllDiffer taken →
-    (0 < number → (x : ℕ) → IsIn x taken → IsIn x (base_of (has_other_pawns sides && number == 1))) → ComesAfterGroups sides part number taken before
-after_by p t n d i = record { has_part = p; taken_are = t; number_is = n; differ = d; inside = i }

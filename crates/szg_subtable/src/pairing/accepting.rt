@@ -113,13 +113,7 @@ pub(crate) fn count_pairs_in(entries: &[[u8; 3]]) -> usize
     ensures pairs { result ≡ length (pairs_in entries.now) }
     ensures few { result ≤ length entries.now }
 {
-    let mut count = 0;
-    for entry in entries {
-        if !is_leaf(*entry) {
-            count += 1;
-        }
-    }
-    count
+    entries.iter().filter(|entry| !is_leaf(**entry)).count()
 }
 
 /// Tests a proposal, and returns it with the number of values of each symbol counted anew. None if there are too many
@@ -135,12 +129,7 @@ pub(crate) fn accept(
     ensures round { IfOk result (λ found. IfSome found (λ p. IsRound values.now (length (pairs_in p.entries.items)) p.entries.items p.symbols.items)) }
     ensures lens { IfOk result (λ found. IfSome found (λ p. AreLens p.entries.items p.lens.items)) }
 {
-    let Paired {
-        entries,
-        symbols,
-        ..
-    } = proposal;
-    let (listed, text) = (entries.as_slice(), symbols.as_slice());
+    let (listed, text) = (proposal.entries.as_slice(), proposal.symbols.as_slice());
     let pairs = count_pairs_in(listed);
     if listed.len() > MAX_SYMBOLS || listed.len() - pairs != count_different(values) {
         return Ok(None);
@@ -160,9 +149,5 @@ pub(crate) fn accept(
     for symbol in 0..dict.symbols() {
         lens.push(dict.len(symbol))?;
     }
-    Ok(Some(Paired {
-        entries,
-        lens,
-        symbols,
-    }))
+    Ok(Some(Paired { lens, ..proposal }))
 }

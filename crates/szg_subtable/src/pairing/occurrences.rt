@@ -6,85 +6,14 @@ ghost use Rattle.std.specs.Prelude.{◌≤◌, length};
 
 use crate::pairing::cells::{Cells, INSIDE, LAST, is_even_before, is_even_from, length_in};
 use crate::pairing::neighbours::{Neighbours, count, put};
-use crate::pairing::tally::{PairCount, PairTally};
+use crate::pairing::tally::PairTally;
 use crate::pairing::{LEAST_COUNT, Pair};
 use std::alloc::{AllocError, Global};
 use std::cmp::Reverse;
-use std::collections::BinaryHeap;
+use std::collections::{BinaryHeap, HashMap};
 
-/// No symbol: the left symbol of a slot without a pair.
+/// No symbol: there is none on this side.
 const FREE: u16 = u16::MAX;
-
-/// A slot without a pair.
-const FREE_SLOT: PairCount = PairCount {
-    pair: Pair {
-        left: FREE,
-        right: FREE,
-    },
-    count: 0,
-};
-
-/// The number of slots at the start, a power of two.
-const FIRST_SLOTS: usize = 1024;
-
-/// The counts of pairs that may be made: a hash table that is at least half empty.
-#[derive(Drop)]
-pub(crate) struct Counts {
-    slots: Vec<PairCount>,
-    used: usize,
-}
-
-/// Returns the index of the slot of a pair, or of the free slot where the pair would go. The search begins at the
-/// pair's hash.
-fn slot_of(slots: &[PairCount], pair: Pair) -> usize {
-    let mask = slots.len().saturating_sub(1);
-    let key = u64::from(pair.left) << 16 | u64::from(pair.right);
-    let hash = key.wrapping_mul(0x9e37_79b9_7f4a_7c15) >> 32;
-    let mut place = hash as usize & mask;
-    for _ in 0..slots.len() {
-        if place >= slots.len() {
-            return place;
-        }
-        let found = slots[place].pair;
-        if found.left == FREE || found.left == pair.left && found.right == pair.right {
-            return place;
-        }
-        place = place.wrapping_add(1) & mask;
-    }
-    slots.len()
-}
-
-impl Counts {
-    /// Lowers the count of a pair, if it was added.
-    fn lower(&mut self, pair: Pair, by: u32) {
-        let place = slot_of(&self.slots, pair);
-        if place < self.slots.len() {
-            self.slots[place].count = self.slots[place].count.saturating_sub(by);
-        }
-    }
-
-    /// Adds a pair that was not added before. Doubles the table's capacity if the table is half full.
-    fn add(&mut self, alloc: Global, pair: Pair, count: u32) -> Result<(), AllocError> {
-        if self.used >= self.slots.len() / 2 {
-            let more = self.slots.len().saturating_mul(2);
-            let mut slots = vec![in alloc; FREE_SLOT; more]?;
-            for slot in &self.slots {
-                // a free slot is copied to a free slot
-                let place = slot_of(&slots, slot.pair);
-                if place < slots.len() {
-                    slots[place] = *slot;
-                }
-            }
-            self.slots = slots;
-        }
-        let place = slot_of(&self.slots, pair);
-        if place < self.slots.len() {
-            self.slots[place] = PairCount { pair, count };
-        }
-        self.used = self.used.saturating_add(1);
-        Ok(())
-    }
-}
 
 /// A pair that may be made, and its offsets; at some of them the pair may be gone, since its symbols were replaced. The
 /// greatest candidate has the greatest count; of equal counts it has the least left symbol, and of these the least right
@@ -172,7 +101,8 @@ fn join_all(
 /// The counts and the listed offsets of a text's frequent pairs.
 #[derive(Drop)]
 pub(crate) struct Occurrences {
-    counts: Counts,
+    /// The counts of the pairs that have lists.
+    counts: HashMap<Pair, u32>,
     /// For each pair that has a list, its offsets in ascending order, one list after another. The first number is in no
     /// list: the offsets of pairs without a list are written there.
     lists: Vec<u32>,
@@ -198,12 +128,8 @@ impl Occurrences {
         width: u16,
     ) -> Result<Occurrences, AllocError> {
         let room = text.cells.len().saturating_mul(3).saturating_add(1);
-        let counts = Counts {
-            slots: vec![in alloc; FREE_SLOT; FIRST_SLOTS]?,
-            used: 0,
-        };
         let mut occurrences = Occurrences {
-            counts,
+            counts: HashMap::new(alloc),
             lists: Vec::with_capacity(alloc, room)?,
             sides: Vec::new(alloc),
             queue: BinaryHeap::new(alloc),
@@ -216,7 +142,7 @@ impl Occurrences {
             for right in 0..tally.symbols {
                 let pair = Pair { left, right };
                 let (size, count) = tally.sizes_of(pair);
-                let begin = occurrences.add(alloc, text, pair, count, size)?;
+                let begin = occurrences.add(text, pair, count, size)?;
                 tally.begin(pair, begin.unwrap_or(0));
             }
         }
@@ -228,7 +154,6 @@ impl Occurrences {
     /// since it occurs too rarely or has too many values.
     fn add(
         &mut self,
-        alloc: Global,
         text: &Cells,
         pair: Pair,
         count: u32,
@@ -239,7 +164,7 @@ impl Occurrences {
         }
         let begin = self.lists.len();
         self.lists.resize(begin.saturating_add(size as usize), 0)?;
-        self.counts.add(alloc, pair, count)?;
+        self.counts.insert(pair, count)?;
         self.queue.push(Candidate {
             count,
             left: Reverse(pair.left),
@@ -250,6 +175,13 @@ impl Occurrences {
         Ok(Some(begin))
     }
 
+    /// Lowers the count of a pair, if it has a list.
+    fn lower(&mut self, pair: Pair, by: u32) {
+        if let Some(count) = self.counts.get_mut(&pair) {
+            *count = count.saturating_sub(by);
+        }
+    }
+
     /// Returns the pair with the greatest count; of equal counts the one with the least left symbol, and of these
     /// the one with the least right symbol. None if no pair occurs often enough to have a list.
     pub(crate) fn pick(&mut self) -> Result<Option<Candidate>, AllocError> {
@@ -257,9 +189,7 @@ impl Occurrences {
             let Some(candidate) = self.queue.pop() else {
                 return Ok(None);
             };
-            let place = slot_of(&self.counts.slots, candidate.pair());
-            let slot = self.counts.slots.get(place).copied();
-            let count = slot.unwrap_or(FREE_SLOT).count;
+            let count = self.counts.get(&candidate.pair()).copied().unwrap_or(0);
             if count == candidate.count {
                 return Ok(Some(candidate));
             }
@@ -273,7 +203,6 @@ impl Occurrences {
     /// Replaces a picked pair by the symbol `new` wherever it occurs in the text. Returns how often it occurred.
     pub(crate) fn make(
         &mut self,
-        alloc: Global,
         text: &mut Cells,
         picked: Candidate,
         new: u16,
@@ -285,24 +214,16 @@ impl Occurrences {
         let begin = picked.begin.min(end);
         let list = &mut self.lists[begin..end];
         if self.sides.len() < list.len() {
-            self.sides.resize(list.len(), FREE_SLOT.pair)?;
+            self.sides.resize(list.len(), Pair::of(FREE, FREE))?;
         }
         let mut joined = join_all(list, &mut self.sides, text, pair, new);
         self.count_sides(new, &mut joined);
-        self.counts
-            .lower(Pair::of(pair.left, pair.left), joined.less_left);
-        self.counts
-            .lower(Pair::of(pair.right, pair.right), joined.less_right);
-        self.counts.lower(pair, u32::MAX);
-        self.list_side(alloc, text, pair, joined, new, true)?;
-        self.list_side(alloc, text, pair, joined, new, false)?;
-        let own = self.add(
-            alloc,
-            text,
-            Pair::of(new, new),
-            joined.doubled,
-            joined.adjacent,
-        )?;
+        self.lower(Pair::of(pair.left, pair.left), joined.less_left);
+        self.lower(Pair::of(pair.right, pair.right), joined.less_right);
+        self.lower(pair, u32::MAX);
+        self.list_side(text, pair, joined, new, true)?;
+        self.list_side(text, pair, joined, new, false)?;
+        let own = self.add(text, Pair::of(new, new), joined.doubled, joined.adjacent)?;
         self.following.begin(new, own);
         if self.lists.len() > listed {
             let last = begin.saturating_add(joined.made).min(end);
@@ -340,7 +261,6 @@ impl Occurrences {
     /// the new one, and adds its pair with the new symbol, but not the new symbol's pair with itself.
     fn list_side(
         &mut self,
-        alloc: Global,
         text: &Cells,
         picked: Pair,
         joined: Joined,
@@ -362,7 +282,7 @@ impl Occurrences {
                 (Pair::of(picked.right, symbol), Pair::of(new, symbol))
             };
             if old.left != old.right && symbol != new {
-                self.counts.lower(old, size);
+                self.lower(old, size);
             }
             // where a new symbol directly follows a new one, the left symbol of the later occurrence was counted as the
             // symbol after the earlier one
@@ -373,7 +293,7 @@ impl Occurrences {
             } else {
                 size.saturating_sub(became_new)
             };
-            let begin = self.add(alloc, text, found, count, count)?;
+            let begin = self.add(text, found, count, count)?;
             if is_before {
                 self.before.begin(symbol, begin);
             } else {

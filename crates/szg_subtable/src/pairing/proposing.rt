@@ -9,7 +9,7 @@
 use crate::pairing::cells::{Cells, length_in};
 use crate::pairing::leaves::{MAX_SYMBOLS, Paired, entry};
 use crate::pairing::occurrences::Occurrences;
-use crate::pairing::tally::{Enough, PairTally};
+use crate::pairing::tally::PairTally;
 use crate::pairing::{LEAST_COUNT, MAX_VALUES, Pair};
 use crate::watching::Watcher;
 use std::alloc::{AllocError, Global};
@@ -68,16 +68,14 @@ impl Making {
             return LEAST_COUNT;
         }
         let rounds = u64::from(self.rounds.saturating_sub(self.done));
-        let enough = Enough {
-            pairs: rounds
-                .saturating_mul(self.more)
-                .saturating_mul(LISTED_PAIRS),
-            occurrences: symbols
-                .saturating_mul(self.more)
-                .saturating_mul(LISTED_PERCENT)
-                / 100,
-        };
-        tally.count_reached_by(&self.text, enough, most)
+        let pairs = rounds.saturating_mul(self.more.saturating_mul(LISTED_PAIRS));
+        let percent = self.more.saturating_mul(LISTED_PERCENT);
+        tally.least_count(
+            &self.text,
+            most,
+            pairs,
+            symbols.saturating_mul(percent) / 100,
+        )
     }
 
     /// Counts all pairs. If the most frequent one is frequent enough (`DENSE_PART`), makes this pair in one pass over
@@ -135,7 +133,7 @@ impl Making {
                 is_more = false;
                 break;
             };
-            let made = occurrences.make(alloc, &mut self.text, picked, new)?;
+            let made = occurrences.make(&mut self.text, picked, new)?;
             symbols = symbols.saturating_sub(made);
             let is_halved = symbols <= self.text.cells.len() / 2;
             if is_halved && self.entries.len().saturating_pow(2) <= symbols {
@@ -155,17 +153,12 @@ pub(crate) fn with_pairs<V: Watcher>(
     rounds: u32,
     watcher: &mut V,
 ) -> Result<Paired, AllocError> {
-    let Paired {
-        entries,
-        lens,
-        symbols,
-    } = begun;
     let mut making = Making {
-        entries,
+        entries: begun.entries,
         text: Cells {
-            cells: symbols,
-            lens: vec![in alloc; 1; lens.len()]?,
-            values: lens,
+            cells: begun.symbols,
+            lens: vec![in alloc; 1; begun.lens.len()]?,
+            values: begun.lens,
         },
         done: 0,
         rounds,

@@ -170,9 +170,8 @@ const NOTHING_FOUND: Cheapest = Cheapest {
 
 /// Returns the cheapest spelling of the leaves from index `place` on. `kept` has the costs of the cheapest spellings
 /// from later indexes on: for index n at `n % KEPT`.
-fn cheapest_from(tree: &Tree, leaves: &[u16], place: usize, kept: &[u64]) -> Cheapest
-    requires place { place < length leaves.now }
-    requires kept { length kept.now ≡ 512 }
+fn cheapest_from(tree: &Tree, leaves: &[u16], place: usize, kept: &[u64; KEPT]) -> Cheapest
+    requires { place < length leaves.now }
 {
     let mut best = NOTHING_FOUND;
     let mut next = usize::from(leaves[place]);
@@ -207,87 +206,109 @@ pub(crate) struct Spelling {
     pub visited: u64,
 }
 
-/// If the `KEPT` leaves before an index are equal to the leaf at this index, repeats there the symbols of the `PERIOD`
-/// indexes from it on, and returns true.
-fn repeat(leaves: &[u16], symbols: &mut [u16], place: usize) -> bool
-    ensures { result ≡ true → 512 ≤ place }
-{
-    let count = leaves.len();
-    if place < KEPT || count < PERIOD || place > count - PERIOD || symbols.len() != count {
-        return false;
+/// What is known at an index of the leaves, while the indexes are walked from the last to the first.
+#[derive(Clone, Copy)]
+struct Walk {
+    /// The costs of the cheapest spellings from the next `KEPT` indexes on: from index n on at `n % KEPT`.
+    kept: [u64; KEPT],
+    /// The cheapest spelling from the index on.
+    found: Cheapest,
+    /// How many leaves from the index on are equal.
+    equal: usize,
+    /// By how much the cost exceeds that of `PERIOD` indexes later on, modulo 2^64.
+    rise: u64,
+    /// For how many indexes in succession it does so.
+    same: usize,
+}
+
+impl Walk {
+    /// If the `KEPT` leaves before index `place` are equal to the leaf there, and the costs rise evenly, moves on to the
+    /// first of these leaves: repeats the symbols of the `PERIOD` indexes from `place` on. Returns whether it does.
+    fn repeat(&mut self, leaves: &[u16], symbols: &mut [u16], place: usize) -> bool
+        requires { length symbols.old ≡ length leaves.now }
+        ensures { result ≡ true → 512 ≤ place }
+    {
+        let is_even = self.equal >= KEPT && self.same >= PERIOD;
+        if !is_even || place < KEPT || leaves.len() < PERIOD || place > leaves.len() - PERIOD {
+            return false;
+        }
+        if !are_all(&leaves[place - KEPT..place], leaves[place]) {
+            return false;
+        }
+        symbols.copy_within(place..place + PERIOD, place - PERIOD);
+        symbols.copy_within(place - PERIOD..place, place - KEPT);
+        for cost in self.kept.iter_mut() {
+            *cost = cost.saturating_add(self.rise.saturating_mul(2));
+        }
+        true
     }
-    if !are_all(&leaves[place - KEPT..place], leaves[place]) {
-        return false;
+
+    /// Moves on to index `place`, the one before, and stores the best symbol there. Returns the number of nodes visited.
+    ///
+    /// The best symbol is the one from `PERIOD` indexes later on, and the cost is greater by `rise`, if the leaves that
+    /// both depend on are equal, and if the costs from the next `PERIOD` indexes on all exceed the costs from `PERIOD`
+    /// indexes later on by `rise`.
+    fn step(&mut self, tree: &Tree, leaves: &[u16], symbols: &mut [u16], place: usize) -> u64
+        requires place { place < length leaves.now }
+        requires count { length symbols.old ≡ length leaves.now }
+    {
+        let is_equal = place + 1 < leaves.len() && leaves[place] == leaves[place + 1];
+        let equal_before = if is_equal { self.equal } else { 0 };
+        self.equal = equal_before.saturating_add(1);
+        let later = place.saturating_add(PERIOD);
+        let cost_later = self.kept[later % KEPT];
+        let mut visited = 0;
+        if self.equal >= KEPT && self.same >= PERIOD && later < symbols.len() {
+            self.found.symbol = symbols[later];
+            self.found.cost = cost_later.saturating_add(self.rise);
+        } else {
+            self.found = cheapest_from(tree, leaves, place, &self.kept);
+            visited = self.found.steps;
+        }
+        let rise = self.found.cost.wrapping_sub(cost_later);
+        let same_before = if rise == self.rise { self.same } else { 0 };
+        self.same = same_before.saturating_add(1);
+        self.rise = rise;
+        self.kept[place % KEPT] = self.found.cost;
+        symbols[place] = self.found.symbol;
+        visited
     }
-    symbols.copy_within(place..place + PERIOD, place - PERIOD);
-    symbols.copy_within(place - PERIOD..place, place - KEPT);
-    true
 }
 
 /// Chooses the best symbol at each index of the leaves, from the last to the first. None if more than `limit` nodes are
 /// visited.
-///
-/// The best symbol is the one from `PERIOD` indexes later on, and the cost is greater by `rise`, if the leaves that both
-/// depend on are equal, and if the costs from the next `PERIOD` indexes on all exceed the costs from `PERIOD` indexes
-/// later on by `rise`.
 fn choose(
     alloc: Global,
     tree: &Tree,
     leaves: &[u16],
     limit: u64,
 ) -> Result<Option<Spelling>, AllocError> {
-    let mut kept_costs = vec![in alloc; 0u64; KEPT]?;
-    let kept = kept_costs.as_mut_slice();
-    let mut symbols = vec![in alloc; 0u16; leaves.len()]?;
+    let mut chosen = vec![in alloc; 0u16; leaves.len()]?;
+    let symbols = chosen.as_mut_slice();
     let (mut steps, mut visited) = (0u64, 0u64);
-    // how many leaves from the index on are equal; by how much the cost exceeds that of `PERIOD` indexes later on, modulo
-    // 2^64; and for how many indexes in succession it does so
-    let (mut equal, mut rise, mut same) = (0usize, 0u64, 0usize);
-    let mut found = NOTHING_FOUND;
+    let mut walk = Walk {
+        kept: [0; KEPT],
+        found: NOTHING_FOUND,
+        equal: 0,
+        rise: 0,
+        same: 0,
+    };
     let mut place = leaves.len();
-    for _ in 0..leaves.len() {
-        let is_repeated = equal >= KEPT && same >= PERIOD;
-        if is_repeated && repeat(leaves, &mut symbols, place) {
-            for cost in kept.iter_mut() {
-                *cost = cost.saturating_add(rise.saturating_mul(2));
-            }
-            steps = steps.saturating_add(found.steps.saturating_mul(KEPT as u64));
+    while place > 0 {
+        if walk.repeat(leaves, symbols, place) {
+            steps = steps.saturating_add(walk.found.steps.saturating_mul(KEPT as u64));
             place -= KEPT;
             continue;
         }
-        if place == 0 || place > leaves.len() {
-            break;
-        }
         place -= 1;
-        let is_equal = place + 1 < leaves.len() && leaves[place] == leaves[place + 1];
-        equal = if is_equal { equal.saturating_add(1) } else { 1 };
-        let after = place.saturating_add(PERIOD);
-        let cost_after = kept[after % KEPT];
-        if equal >= KEPT && same >= PERIOD && after < symbols.len() {
-            found.symbol = symbols[after];
-            found.cost = cost_after.saturating_add(rise);
-        } else {
-            found = cheapest_from(tree, leaves, place, kept);
-            visited = visited.saturating_add(found.steps);
-            if visited > limit {
-                return Ok(None);
-            }
+        visited = visited.saturating_add(walk.step(tree, leaves, symbols, place));
+        if visited > limit {
+            return Ok(None);
         }
-        steps = steps.saturating_add(found.steps);
-        let risen = found.cost.wrapping_sub(cost_after);
-        same = if risen == rise {
-            same.saturating_add(1)
-        } else {
-            1
-        };
-        rise = risen;
-        kept[place % KEPT] = found.cost;
-        if place < symbols.len() {
-            symbols[place] = found.symbol;
-        }
+        steps = steps.saturating_add(walk.found.steps);
     }
     Ok(Some(Spelling {
-        symbols,
+        symbols: chosen,
         steps,
         visited,
     }))

@@ -6,7 +6,7 @@ use crate::pairing::leaves::Paired;
 use crate::pairing::numbering::at;
 use crate::shrinking::costs::{BIT, log2};
 use crate::shrinking::dropping::{Kept, without_poor};
-use crate::shrinking::spelling::{Spelling, spell};
+use crate::shrinking::spelling::spell;
 use std::alloc::{AllocError, Global};
 
 /// The best dictionary and text so far, and what they cost.
@@ -62,30 +62,18 @@ impl Best {
         dictionary: Kept,
         quarters: u64,
     ) -> Result<Option<Paired>, AllocError> {
-        let Kept {
-            entries,
-            lens,
-            counts,
-            ..
-        } = dictionary;
-        let costs = blended_costs(alloc, &counts, quarters)?;
-        let Some(
-            Spelling {
-                symbols,
-                steps,
-                visited,
-            },
-        ) = spell(alloc, &self.leaves, &entries, &lens, &costs, self.limit)?
-        else {
+        let costs = blended_costs(alloc, &dictionary.counts, quarters)?;
+        let (entries, lens) = (dictionary.entries, dictionary.lens);
+        let Some(text) = spell(alloc, &self.leaves, &entries, &lens, &costs, self.limit)? else {
             (self.budget, self.limit) = (0, 0);
             return Ok(None);
         };
-        self.budget = self.budget.saturating_sub(steps);
-        self.limit = self.limit.saturating_sub(visited);
+        self.budget = self.budget.saturating_sub(text.steps);
+        self.limit = self.limit.saturating_sub(text.visited);
         let mut spelled = Paired {
             entries,
             lens,
-            symbols,
+            symbols: text.symbols,
         };
         let needed = without_poor(alloc, &spelled, 0)?;
         for symbol in spelled.symbols.iter_mut() {

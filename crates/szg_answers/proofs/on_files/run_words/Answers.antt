@@ -1,6 +1,6 @@
 use Rattle.std.proofs.Common.{map, inl, inr, None, refl, rules, sym}
 use Rattle.szg_archive.specs.Verdicts.{plain_options}
-use Rattle.szg_answers.proofs.Endings.{EndsTask-then, check_ends_well, checked_so, ends_well, if_ok_then, listed_or}
+use Rattle.szg_answers.proofs.Endings.{EndsTask-then, check_ends_well, checked_so, ends_well, listed_or}
 use Rattle.szg_answers.specs.OnFiles.{asked_of, plain_check}
 use Rattle.szg_answers.proofs.Outcomes.{has_run_none}
 use Rattle.szg_answers.proofs.on_files.run_words.Goals as goal
@@ -10,7 +10,7 @@ returns-in-Some-clause-ending g c = (
   plain_check (map (λ path. path.now) c.in-Some.paths.now),
   inl (map (λ path. path.now) c.in-Some.paths.now, sym c.in-Some.ensures, refl),
   refl,
-  checked_so _ c.check_files.result (if_ok_then c.check_files.result (λ report found. ((plain_options, (None, None, refl, refl, refl), found), refl)) c.check_files.ensures.found) c.check_files.ensures.device,
+  checked_so _ _ c.check_files.result (λ report found. ((plain_options, (None, None, refl, refl, refl), found), refl)) c.check_files.ensures.found c.check_files.ensures.device,
 )
 
 pub returns-in-Ok-Check-clause-ending : goal.returns-in-Ok-Check-clause-ending

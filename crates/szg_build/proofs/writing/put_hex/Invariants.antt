@@ -7,4 +7,4 @@ use Rattle.szg_build.proofs.writing.put_hex.Given as goal
 
 -- the bytes so far are written
 abbrev pub invariant-bytes : goal.invariant-bytes
-invariant-bytes g l = Writing {X = Unit {0}} (flat_map byte_digits (take l.byte-index l.bytes)) l.initial.outgoing l.outgoing g.W.Output l.initial.output l.output (Ok tt)
+invariant-bytes g l = Writing {X = Unit {0}} (flat_map byte_digits (take l.byte-index l.bytes)) l.initial.text l.text g.W.Output l.initial.output l.output (Ok tt)

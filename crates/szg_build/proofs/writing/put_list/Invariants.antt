@@ -9,7 +9,7 @@ abbrev pub invariant-runs : goal.invariant-runs
 invariant-runs g l =
     (l.from ≤ length l.values)
     × ((text : List ℕ)
-    × Writing {X = Unit {0}} text l.initial.outgoing l.outgoing g.W.Output l.initial.output l.output (Ok tt)
+    × Writing {X = Unit {0}} text l.initial.text l.text g.W.Output l.initial.output l.output (Ok tt)
     × (text ++ lines_text (value_lines (form_of l.form) (drop l.from l.values)) ≡ lines_text (value_lines (form_of l.form) l.values)))
 
 abbrev pub decreases-runs : goal.decreases-runs

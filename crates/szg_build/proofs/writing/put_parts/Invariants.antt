@@ -10,4 +10,4 @@ use Rattle.szg_build.proofs.writing.put_parts.Given as goal
 abbrev pub invariant-parts : goal.invariant-parts
 invariant-parts g l =
     Writing {X = Unit {0}} (lines_text (flat_map_beside part_lines (take l.number (part_numbers l.fn.material)) (take l.number (map part_of l.parts))))
-    l.initial.outgoing l.outgoing g.W.Output l.initial.output l.output (Ok tt)
+    l.initial.text l.text g.W.Output l.initial.output l.output (Ok tt)

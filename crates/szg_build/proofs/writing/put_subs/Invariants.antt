@@ -10,4 +10,4 @@ use Rattle.szg_build.proofs.writing.put_subs.Given as goal
 abbrev pub invariant-subs : goal.invariant-subs
 invariant-subs g l =
     Writing {X = Unit {0}} (lines_text (flat_map_beside (sub_lines (form_of l.form) l.fn.dump.kind) (take l.s (subtable_ids_of l.fn.dump.material l.fn.dump.kind)) (take l.s (subs_seen l.fn.dump))))
-    l.initial.outgoing l.outgoing g.W.Output l.initial.output l.output (Ok tt)
+    l.initial.text l.text g.W.Output l.initial.output l.output (Ok tt)

@@ -1,4 +1,4 @@
-use Rattle.std.proofs.Common.{◌∙◌, ap, sym, refl}
+use Rattle.std.proofs.Common.{◌∙◌, None, Some, ap, sym, refl}
 use Rattle.std.specs.Prelude.{is_some}
 use Rattle.szg_file.specs.Index.{Index, slot_in}
 use Rattle.szg_file.specs.Unread.{front_at}
@@ -20,12 +20,22 @@ pub returns-then-not-has_index-clause-found : goal.returns-then-not-has_index-cl
 returns-then-not-has_index-clause-found c = λ content front.
     missing _ _ (with_slot (slot_in c.args.table.now.index c.args.spot.part c.args.spot.side) c.args.spot.index) (sym c.if-not-has_index.true ∙ (c.has_index.ensures ∙ ap (λ (x : Index). is_some (with_slot (slot_in x c.args.spot.part c.args.spot.side) c.args.spot.index)) c.index.ensures)) tt
 
-pub returns-clause-statuses : goal.returns-clause-statuses
-returns-clause-statuses c =
+pub returns-in-Some-clause-statuses : goal.returns-in-Some-clause-statuses
+returns-in-Some-clause-statuses c =
     there _ _ (with_slot (slot_in c.args.table.now.index c.args.spot.part c.args.spot.side) c.args.spot.index) (sym c.if-not-has_index.false ∙ (c.has_index.ensures ∙ ap (λ (x : Index). is_some (with_slot (slot_in x c.args.spot.part c.args.spot.side) c.args.spot.index)) c.index.ensures)) (λ slot. refl)
 
-pub returns-clause-found : goal.returns-clause-found
-returns-clause-found c = λ content front.
+pub returns-in-Some-clause-found : goal.returns-in-Some-clause-found
+returns-in-Some-clause-found c = λ content front.
     there _ _ (with_slot (slot_in c.args.table.now.index c.args.spot.part c.args.spot.side) c.args.spot.index) (sym c.if-not-has_index.false ∙ (c.has_index.ensures ∙ ap (λ (x : Index). is_some (with_slot (slot_in x c.args.spot.part c.args.spot.side) c.args.spot.index)) c.index.ensures))
-    (λ slot. weaker (front_at c.args.table.now.index.material c.args.table.now.index.kind content c.args.spot.part c.args.spot.side) _ _ (wanted_of c.locate.result _ c.locate.ensures c.range.result c.range.ensures.wanted content front)
-    (λ found wanted. range_stated c.range.result (wanted_block found.1 c.args.spot.index) content c.raw_range.result wanted c.raw_range.ensures))
+    (λ slot. weaker (front_at c.args.table.now.index.material c.args.table.now.index.kind content c.args.spot.part c.args.spot.side) _ _ (wanted_of c.locate.result _ c.locate.ensures (Some c.in-Some.wanted) c.in-Some.ensures.wanted content front)
+    (λ found wanted. range_stated (Some c.in-Some.wanted) (wanted_block found.1 c.args.spot.index) content _ wanted (refl, refl)))
+
+pub returns-in-None-clause-statuses : goal.returns-in-None-clause-statuses
+returns-in-None-clause-statuses c =
+    there _ _ (with_slot (slot_in c.args.table.now.index c.args.spot.part c.args.spot.side) c.args.spot.index) (sym c.if-not-has_index.false ∙ (c.has_index.ensures ∙ ap (λ (x : Index). is_some (with_slot (slot_in x c.args.spot.part c.args.spot.side) c.args.spot.index)) c.index.ensures)) (λ slot. refl)
+
+pub returns-in-None-clause-found : goal.returns-in-None-clause-found
+returns-in-None-clause-found c = λ content front.
+    there _ _ (with_slot (slot_in c.args.table.now.index c.args.spot.part c.args.spot.side) c.args.spot.index) (sym c.if-not-has_index.false ∙ (c.has_index.ensures ∙ ap (λ (x : Index). is_some (with_slot (slot_in x c.args.spot.part c.args.spot.side) c.args.spot.index)) c.index.ensures))
+    (λ slot. weaker (front_at c.args.table.now.index.material c.args.table.now.index.kind content c.args.spot.part c.args.spot.side) _ _ (wanted_of c.locate.result _ c.locate.ensures None c.in-None.ensures.wanted content front)
+    (λ found wanted. range_stated None (wanted_block found.1 c.args.spot.index) content _ wanted (refl, refl)))

@@ -13,15 +13,6 @@ use Rattle.szg_c.specs.Places.{is_class}
 use Rattle.szg_c.specs.declared.places.Unfound.TheVariants.{Status}
 use Rattle.szg_c.proofs.places.outcome_of.Goals as goal
 
-pub returns-in-Wdl : goal.returns-in-Wdl
-returns-in-Wdl g c =
-    let x = g.V.Values.index_in c.args.values in let is_value = g.V.Values.is_value c.args.values in let is_fault = g.V.Values.is_fault c.args.values in
-    let of_index : c.index.result.now.kind ≡ x.kind = ap (λ (x : Index). x.kind) c.index.ensures in
-    let queried = c.kind.ensures in let is = c.in-Wdl.is in
-    let kind_is : x.kind ≡ Wdl = cc in
-    subst (λ (k : Kind). IsOutcome k x is_value is_fault c.args.class c.args.placement.now c.class_or_status.result) (sym kind_is)
-    (c.probe_class.result, record { refused = c.probe_class.ensures.refused; meant = c.probe_class.ensures.class }, c.class_or_status.ensures)
-
 pub returns-then-not-is_class : goal.returns-then-not-is_class
 returns-then-not-is_class g c =
     let x = g.V.Values.index_in c.args.values in let is_value = g.V.Values.is_value c.args.values in let is_fault = g.V.Values.is_fault c.args.values in
@@ -31,18 +22,3 @@ returns-then-not-is_class g c =
     let outside : is_class c.args.class ≡ false = subst (λ (z : ℤ). is_class z ≡ false) (to_z-of_z w8 c.args.class c.ranges.class) (sym c.is_class.ensures ∙ c.if-not-is_class.true) in
     subst (λ (k : Kind). IsOutcome k x is_value is_fault c.args.class c.args.placement.now (Err (Status 4))) (sym kind_is)
     (λ inside. let clash : true ≡ false = sym inside ∙ outside in absurd (cc clash), λ out. refl)
-
-pub returns-else-not-is_class : goal.returns-else-not-is_class
-returns-else-not-is_class g c =
-    let x = g.V.Values.index_in c.args.values in let is_value = g.V.Values.is_value c.args.values in let is_fault = g.V.Values.is_fault c.args.values in
-    let board = c.args.placement.now in let r = c.probe_number.result in
-    let of_index : c.index.result.now.kind ≡ x.kind = ap (λ (x : Index). x.kind) c.index.ensures in
-    let queried = c.kind.ensures in let is = c.in-Dtz.is in
-    let kind_is : x.kind ≡ Dtz = cc in
-    let same = to_z-of_z w8 c.args.class c.ranges.class in
-    let inside : is_class c.args.class ≡ true = subst (λ (z : ℤ). is_class z ≡ true) same (sym c.is_class.ensures ∙ c.if-not-is_class.false) in
-    let spot = spot_of (numbering_in x) board in
-    let Meant : ℤ → Type 0 = λ z. IsNone (place_fault (numbering_in x) board) → IsMeant (is_value spot) (is_fault spot) (as_number x spot.part z) r in
-    let meant : Meant c.args.class = subst Meant same c.probe_number.ensures.number in
-    subst (λ (k : Kind). IsOutcome k x is_value is_fault c.args.class board c.distance_or_status.result) (sym kind_is)
-    (λ _. (r, record { refused = c.probe_number.ensures.refused; meant = meant }, c.distance_or_status.ensures), λ outside. let clash : true ≡ false = sym inside ∙ outside in absurd (cc clash))

@@ -1,13 +1,13 @@
 use Rattle.std.proofs.Common.{◌∙◌, List, ap, subst, sym}
 use Rattle.szg_values.specs.Placement.{AreOnBoard, PlacedMan}
-use Rattle.szg_chess.specs.Attacks.{reaches_other}
 use Rattle.szg_chess.specs.Moves.{after}
+use Rattle.szg_chess.specs.Squares.{reached_of}
 use Rattle.szg_chess.proofs.AfterMove.{after_is_position}
 use Rattle.szg_chess.proofs.Position.after.Goals as goal
 
-pub reaches_other-reaches-requires : goal.reaches_other-reaches-requires
+pub reached_by-reached-requires : goal.reached_by-reached-requires
 unfolding after
-reaches_other-reaches-requires c =
+reached_by-reached-requires c =
     let position = after_is_position c.args.self.now c.args.m c.men_after-men.ensures.position c.requires in
     subst AreOnBoard (sym (c.as_slice.ensures.elements ∙ c.men_after-men.ensures.men)) position.squares.men
 
@@ -17,5 +17,5 @@ invariant_of-result c = record {
   position = rw (c.men_after-men.ensures.men, c.other_color-mover.ensures, c.mover.ensures, c.passed_square-en_passant.ensures) (after_is_position c.args.self.now c.args.m c.men_after-men.ensures.position c.requires);
   squares = rw c.men_after-men.ensures.men c.squares_after-occupied.ensures.squares;
   key_is = rw c.men_after-men.ensures.men c.key_after-key.ensures;
-  reaches_is = c.reaches_other-reaches.ensures ∙ ap (λ (men : List PlacedMan). reaches_other men c.other_color-mover.result) c.as_slice.ensures.elements;
+  reached_is = c.reached_by-reached.ensures ∙ ap (λ (men : List PlacedMan). reached_of men c.other_color-mover.result) c.as_slice.ensures.elements;
 }

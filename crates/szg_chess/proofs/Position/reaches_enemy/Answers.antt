@@ -6,7 +6,8 @@ use Rattle.szg_chess.proofs.Position.reaches_enemy.Goals as goal
 pub returns-clause-reached : goal.returns-clause-reached
 returns-clause-reached c =
     let p = c.args.self.now in
-    first_reached (other_color p.mover) p.placed_men c.args.man.now c.reach_of.result c.args.enemies c.next_in.result c.men.ensures.position.squares.men c.reach_of.ensures c.requires c.next_in.ensures.found c.next_in.ensures.first
+    first_reached p.mover p.placed_men c.args.man.now c.reach_of.result c.reached.result c.next_in.result c.reached.ensures.on_board c.requires.standing c.requires.own c.reach_of.ensures c.reached.ensures.reached
+    c.next_in.ensures.found c.next_in.ensures.first
 
 pub returns-clause-none : goal.returns-clause-none
 returns-clause-none c = λ no.

@@ -10,5 +10,5 @@ invariant_of-result c =
       position = rw (men, c.mover.ensures) (position_without c.args.self.now c.occupied.ensures.position);
       squares = rw men c.occupied.ensures.squares;
       key_is = rw men c.key.ensures;
-      reaches_is = rw (men, c.mover.ensures) c.reaches.ensures;
+      reached_is = rw (men, c.mover.ensures) c.reached.ensures.reached;
     }

@@ -1,20 +1,20 @@
-use Rattle.std.proofs.Common.{ℕ, ◌≡◌, ◌+◌, ◌-◌, ◌<◌, List, length, get_or, take, drop, sym, ap, ◌∙◌, arith, length-drop}
-use Rattle.std.proofs.lemmas.List.{take_all, get_or-drop}
-use Rattle.byteorder.specs.Endian.{big_from}
-use Rattle.szg_code.specs.Bits.{number}
+use Rattle.std.proofs.Common.{ℕ, Bool, ◌≡◌, ◌+◌, ◌-◌, ◌*◌, ◌%◌, ◌^◌, List, length, drop, ap, ◌∙◌, arith}
+use Rattle.std.proofs.lemmas.List.{drop-drop}
+use Rattle.szg_code.specs.Bits.{bits, number}
 use Rattle.szg_code.specs.Window.{padded}
-use Rattle.szg_code.proofs.ByteBits.{drop-bits}
-use Rattle.szg_code.proofs.Windows.{number-padded_bits, number-halves}
+use Rattle.szg_code.proofs.ByteBits.{length-left}
+use Rattle.szg_code.proofs.Windows.{number-read, number-shifted}
 use Rattle.szg_code.proofs.reader.read_u64_at.Goals as goal
 
-pub returns-then-at-bytes : goal.returns-then-at-bytes
-returns-then-at-bytes c =
-    let xs : List ℕ = c.args.bytes.now in
-    let at : ℕ = c.args.at in
-    let ys : List ℕ = drop at xs in
-    let whole : take (length xs - at) ys ≡ ys = take_all (length xs - at) ys (omega (arith, length-drop at xs)) in
-    let fit : (k : ℕ) → get_or ys k 0 < 256 = λ k. let f = c.type_inv.bytes (at + k) in let g = get_or-drop at xs k 0 in omega (arith, f, g) in
-    c.read_u64.ensures ∙ ap (λ (u : List ℕ). big_from 0 8 u) whole ∙ sym (number-padded_bits 8 ys 0 fit) ∙ ap (λ u. number (padded 64 u)) (sym (drop-bits at xs))
+pub returns-then-at-bytes-clause-number : goal.returns-then-at-bytes-clause-number
+returns-then-at-bytes-clause-number c = c.read_u64.ensures ∙ number-read c.args.bytes.now c.args.at (λ k. let f = c.type_inv.bytes k in omega arith)
 
-pub returns-else-at-bytes : goal.returns-else-at-bytes
-returns-else-at-bytes c = number-halves c.args.bytes.now c.args.at c.from.result c.from-else-at-bytes.result (c.from.ensures ∙ c.read_u32_at.ensures) (c.from-else-at-bytes.ensures ∙ c.read_u32_at-else-at-bytes.ensures)
+pub returns-clause-number : goal.returns-clause-number
+returns-clause-number c =
+    let xs : List ℕ = c.args.bytes.now in
+    let last : ℕ = length xs - 8 in
+    let l : ℕ = 8 * (c.args.at - last) in
+    let read : c.read_u64-2.result ≡ number (padded 64 (drop (8 * last) (bits xs))) = c.read_u64-2.ensures ∙ number-read xs last (λ k. let f = c.type_inv.bytes k in omega arith) in
+    let there : 8 * last + l ≡ 8 * c.args.at = omega arith in
+    let d : drop l (drop (8 * last) (bits xs)) ≡ drop (8 * c.args.at) (bits xs) = drop-drop l (8 * last) (bits xs) ∙ ap (λ (k : ℕ). drop k (bits xs)) there in
+    ap (λ (n : ℕ). n * 2 ^ l % 18446744073709551616) read ∙ number-shifted (drop (8 * last) (bits xs)) l (omega arith) (let n = length-left (8 * last) xs in omega (arith, n)) ∙ ap (λ (u : List Bool). number (padded 64 u)) d

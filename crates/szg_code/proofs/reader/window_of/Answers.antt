@@ -1,5 +1,21 @@
-use Rattle.szg_code.proofs.Windows.{HoldsBits-read}
+use Rattle.std.proofs.Common.{◌+◌, ◌-◌, arith}
+use Rattle.szg_code.proofs.Windows.{HoldsBits-read, HoldsBits-fewer}
 use Rattle.szg_code.proofs.reader.window_of.Goals as goal
 
-pub returns-clause-held : goal.returns-clause-held
-returns-clause-held c = HoldsBits-read c.args.bytes.now c.args.offset c.read_u64_at.result c.read_u64_at.ensures
+pub returns-then-window-count-clause-valid : goal.returns-then-window-count-clause-valid
+returns-then-window-count-clause-valid c =
+    let near = c.requires.valid.near in
+    record {
+      fits = c.requires.valid.fits;
+      near = omega (arith, c.if-window-count.true, near);
+      holds = HoldsBits-fewer c.args.bytes.now c.args.offset c.args.window.bits c.args.window.held (c.args.count + (c.args.window.held - c.args.count)) c.requires.valid.holds (omega (arith, c.if-window-count.true));
+    }
+
+pub returns-clause-valid : goal.returns-clause-valid
+returns-clause-valid c =
+    let some = c.in_ok-read_u64_at.ensures.some in
+    record {
+      fits = c.requires.valid.fits;
+      near = omega (arith, some, c.requires.few);
+      holds = HoldsBits-fewer c.args.bytes.now c.args.offset _ 57 _ (HoldsBits-read c.args.bytes.now c.args.offset c.in_ok-read_u64_at.field-0 c.in_ok-read_u64_at.ensures.number) (omega arith);
+    }

@@ -1,4 +1,4 @@
-use Rattle.std.proofs.Common.{◌≡◌, ◌+◌, ◌++◌, ◌∷◌, [], ℕ, List, length, map, take, ap, sym, subst, ◌∙◌, arith}
+use Rattle.std.proofs.Common.{◌≡◌, ◌+◌, ◌++◌, ◌∷◌, [], ℕ, List, length, map, take, ap, sym, subst, ◌∙◌, arith, rules}
 use Rattle.std.specs.List.{AllByRecursion}
 use Rattle.std.proofs.lemmas.List.{length-append, length-map, length-take, take_all}
 use Rattle.std.proofs.lemmas.List.FromFn.{length-range_with_len}
@@ -8,7 +8,7 @@ use Rattle.szg_file.specs.Contents.{Part, Slot, slots_from, part_slots, part_num
 use Rattle.szg_file.specs.Held.{part_of}
 use Rattle.szg_file.specs.Parts.{part_with, slots_with}
 use Rattle.szg_file.specs.declared.table.PartBytes.{PartBytes}
-use Rattle.szg_file.proofs.Tables.AssembledLaws.{map_next, all_next, all_at, sides_of_all, all_of_sides}
+use Rattle.szg_file.proofs.Tables.AssembledLaws.{map_next, all_next, all_at, sides_of_all, all_of_sides, orders_are_valid, orders_fail}
 use Rattle.szg_file.proofs.Readers.PartLaws.{slots-more, slots_few}
 use Rattle.szg_file.proofs.Tables.TableFinds.{side_lengths}
 use Rattle.szg_file.proofs.assembled.slots_of.Goals as goal
@@ -22,13 +22,21 @@ returns-then-parts-part_count-clause-none c = λ h.
     let same = side_lengths (λ (_ : ℕ). IsPart c.args.material.now c.args.kind) (part_numbers c.args.material.now) (map part_of c.args.parts.now) h in
     c.if-parts-part_count.true (omega (arith, same, ap length c.part_count.ensures.numbers, length-range_with_len 0 c.part_count.result, length-map c.args.parts.now part_of))
 
-pub returns-in_err-sizes-clause-none : goal.returns-in_err-sizes-clause-none
-returns-in_err-sizes-clause-none c =
+pub returns-then-order-order_count-clause-none : goal.returns-then-order-order_count-clause-none
+returns-then-order-order_count-clause-none c =
     let is_valid : Part → Type 0 = IsPart c.args.material.now c.args.kind in
-    let same : part_with c.deref.result.now c.deref-in-parts.result.now ≡ part_of c.index-parts-n.result = lent_part _ _ c.index-parts-n.result c.deref.ensures.value c.deref-in-parts.ensures.value in
-    rw c.from_residual.ensures (λ h. c.in_err-sizes.ensures.none
+    let same : part_with c.as_slice-order.result.now c.as_slice-men.result.now ≡ part_of c.index-parts-n.result = lent_part _ _ c.index-parts-n.result c.as_slice-order.ensures.value c.as_slice-men.ensures.value in
+    λ h. let is : IsPart c.args.material.now c.args.kind (part_with c.as_slice-order.result.now c.as_slice-men.result.now) = subst is_valid (sym same) (all_at is_valid part_of c.args.parts.now c.parts.n c.index-parts-n.result c.parts-test.true c.index-parts-n.is
+    (all_of_sides is_valid (part_numbers c.args.material.now) (map part_of c.args.parts.now) h)) in
+    search (rules, is.order.0, is.men.0)
+
+pub returns-in-Err-clause-none : goal.returns-in-Err-clause-none
+returns-in-Err-clause-none c =
+    let is_valid : Part → Type 0 = IsPart c.args.material.now c.args.kind in
+    let same : part_with c.as_slice-order.result.now c.as_slice-men.result.now ≡ part_of c.index-parts-n.result = lent_part _ _ c.index-parts-n.result c.as_slice-order.ensures.value c.as_slice-men.ensures.value in
+    λ h. orders_fail c.args.material.now c.args.kind 0 _ _ (part_with c.as_slice-order.result.now c.as_slice-men.result.now) c.in-Err.ensures.refuses
     (subst is_valid (sym same) (all_at is_valid part_of c.args.parts.now c.parts.n c.index-parts-n.result c.parts-test.true c.index-parts-n.is
-    (all_of_sides is_valid (part_numbers c.args.material.now) (map part_of c.args.parts.now) h))))
+    (all_of_sides is_valid (part_numbers c.args.material.now) (map part_of c.args.parts.now) h))).sides
 
 pub parts-preserved : goal.parts-preserved
 parts-preserved c =
@@ -38,21 +46,26 @@ parts-preserved c =
     let done : List Part = map part_of (take n c.args.parts.now) in
     let one : Part = part_of c.index-parts-n.result in
     let longer : map part_of (take (n + 1) c.args.parts.now) ≡ done ++ one ∷ [] = map_next part_of c.args.parts.now n c.index-parts-n.result c.parts-test.true c.index-parts-n.is in
-    let same : part_with c.deref.result.now c.deref-in-parts.result.now ≡ one = lent_part _ _ c.index-parts-n.result c.deref.ensures.value c.deref-in-parts.ensures.value in
+    let same : part_with c.as_slice-order.result.now c.as_slice-men.result.now ≡ one = lent_part _ _ c.index-parts-n.result c.as_slice-order.ensures.value c.as_slice-men.ensures.value in
+    let is_part : IsPart m c.args.kind (part_with c.as_slice-order.result.now c.as_slice-men.result.now) = record {
+      order = (c.if-order-order_count.false ∙ c.order_count.ensures.number, c.bytes_fit.ensures);
+      men = (omega (arith, c.if-men-len.false, c.len.ensures, ap length c.men.ensures.codes), c.bytes_fit-in-parts.ensures);
+      sides = orders_are_valid m c.args.kind 0 (part_with c.as_slice-order.result.now c.as_slice-men.result.now) c.in-Ok.ensures.passes;
+    } in
     let count : 0 + length done ≡ n = omega (arith, length-map (take n c.args.parts.now) part_of, length-take n c.args.parts.now, c.parts-test.true) in
     record {
       slots = c.push_slots.ensures
-          ∙ ap (λ (z : List Slot). z ++ slots_with n c.in_ok-sizes.sizes.first c.in_ok-sizes.sizes.second) c.parts.invariant.slots
-          ∙ ap (λ (z : List Slot). slots_from m sides 0 done ++ z) (sym c.in_ok-sizes.ensures.slots ∙ ap (λ (z : Part). part_slots m sides n z) same)
+          ∙ ap (λ (z : List Slot). z ++ slots_with n c.in-Ok.sizes.first c.in-Ok.sizes.second) c.parts.invariant.slots
+          ∙ ap (λ (z : List Slot). slots_from m sides 0 done ++ z) (sym c.in-Ok.ensures.slots ∙ ap (λ (z : Part). part_slots m sides n z) same)
           ∙ ap (λ (k : ℕ). slots_from m sides 0 done ++ part_slots m sides k one) (sym count)
           ∙ sym (slots-more m sides 0 done one)
           ∙ ap (λ (z : List Part). slots_from m sides 0 z) (sym longer);
-      pass = all_next (IsPart m c.args.kind) part_of c.args.parts.now n c.index-parts-n.result c.parts-test.true c.index-parts-n.is c.parts.invariant.pass (subst (IsPart m c.args.kind) same c.in_ok-sizes.ensures.part);
+      pass = all_next (IsPart m c.args.kind) part_of c.args.parts.now n c.index-parts-n.result c.parts-test.true c.index-parts-n.is c.parts.invariant.pass (subst (IsPart m c.args.kind) same is_part);
       few = omega (
         arith,
         ap length c.push_slots.ensures,
-        length-append c.parts.list.items (slots_with n c.in_ok-sizes.sizes.first c.in_ok-sizes.sizes.second),
-        slots_few n c.in_ok-sizes.sizes.first c.in_ok-sizes.sizes.second,
+        length-append c.parts.list.items (slots_with n c.in-Ok.sizes.first c.in-Ok.sizes.second),
+        slots_few n c.in-Ok.sizes.first c.in-Ok.sizes.second,
         c.parts.invariant.few,
       );
     }

@@ -11,7 +11,7 @@ use Rattle.szg_file.specs.Index.{Index, IsIndex, index_with, slots_in}
 use Rattle.szg_file.specs.Opened.{IsOpenRefusal, IsOpened}
 use Rattle.szg_file.specs.Outline.{outlined}
 use Rattle.szg_file.specs.declared.reading.dropping.PlacedSub.{PlacedSub}
-use Rattle.szg_file.specs.declared.reading.outline.Outline.{Outline}
+use Rattle.szg_file.specs.declared.reading.Outline.{Outline}
 use Rattle.szg_file.specs.declared.opened.OpenFault.{OpenFault}
 use Rattle.szg_file.proofs.Openings.OpenedLaws.{forward_kept, opened_by, refusal_follows}
 use Rattle.szg_file.proofs.Openings.OutlinedLaws.{outline_index, outlined_index, outlined_by}
@@ -22,10 +22,10 @@ pub index_of_placed-index-requires-clause-is_valid : goal.index_of_placed-index-
 index_of_placed-index-requires-clause-is_valid g c =
     let m : Sides = c.args.material in
     let k : Kind = c.args.kind in
-    let o : Outline = c.in-Ok.field-0 in
+    let o : Outline = c.in-Ok.outline in
     let old : Forward = c.new-input.result in
     let new : Forward = c.read_outline.new.input in
-    let h = whole_reading (file c.args.material c.args.kind) (outlined c.args.material c.args.kind (take c.read_outline.new.input.place c.read_outline.new.input.content)) c.in-Ok.field-0 c.in-Ok.ensures.outline in
+    let h = whole_reading (file c.args.material c.args.kind) (outlined c.args.material c.args.kind (take c.read_outline.new.input.place c.read_outline.new.input.content)) c.in-Ok.outline c.in-Ok.ensures.outline in
     let is_valid = outlined_index m k o c.new-state.result c.read_outline.new.state old.place new.place old.content new.content h.bytes c.new-state.ensures.place c.new-state.ensures.fill h.answer.0 in
     subst (λ (l : List PlacedSub). IsIndex (index_with m k (map part_of o.parts.bytes.items) (map (λ held. flags_of (subtable_of held.sub)) l) (map (option_map map_of) o.maps.items))) (sym c.deref.ensures.value) is_valid
 
@@ -33,10 +33,10 @@ pub invariant_of-result : goal.invariant_of-result
 invariant_of-result g c =
     let m : Sides = c.args.material in
     let k : Kind = c.args.kind in
-    let o : Outline = c.in-Ok.field-0 in
+    let o : Outline = c.in-Ok.outline in
     let old : Forward = c.new-input.result in
     let new : Forward = c.read_outline.new.input in
-    let h = whole_reading (file c.args.material c.args.kind) (outlined c.args.material c.args.kind (take c.read_outline.new.input.place c.read_outline.new.input.content)) c.in-Ok.field-0 c.in-Ok.ensures.outline in
+    let h = whole_reading (file c.args.material c.args.kind) (outlined c.args.material c.args.kind (take c.read_outline.new.input.place c.read_outline.new.input.content)) c.in-Ok.outline c.in-Ok.ensures.outline in
     let content = g.S.Source.content (source_of c.new.result) in
     let same = ap (g.S.Source.content) c.new.ensures.source ∙ c.into_source.ensures.content in
     let is : c.index_of_placed-index.result ≡ outline_index m k o =
@@ -54,9 +54,9 @@ returns-in-Ok-clause-table g c =
     let old : Forward = c.new-input.result in
     let new : Forward = c.read_outline.new.input in
     let content : List ℕ = g.S.Source.content c.args.source in
-    let h = whole_reading (file c.args.material c.args.kind) (outlined c.args.material c.args.kind (take c.read_outline.new.input.place c.read_outline.new.input.content)) c.in-Ok.field-0 c.in-Ok.ensures.outline in
+    let h = whole_reading (file c.args.material c.args.kind) (outlined c.args.material c.args.kind (take c.read_outline.new.input.place c.read_outline.new.input.content)) c.in-Ok.outline c.in-Ok.ensures.outline in
     let kept : new.content ≡ old.content = forward_kept old.place new.place old.content new.content h.bytes c.new-input.ensures.place h.taken.bytes_gone h.taken.bytes_moved in
-    let opened = opened_by c.args.material c.args.kind c.in-Ok.field-0 c.new-state.result c.read_outline.new.state old.place new.place old.content new.content h.bytes
+    let opened = opened_by c.args.material c.args.kind c.in-Ok.outline c.new-state.result c.read_outline.new.state old.place new.place old.content new.content h.bytes
     content _ _ c.new-state.ensures.place c.new-state.ensures.fill c.new-input.ensures.place h.taken.bytes_moved h.answer.0 c.in-Ok.ensures.slots c.in-Ok.ensures.fits
     (sym c.new-input.ensures.content ∙ sym kept) refl in
     subst (λ (o : Option Contents). IsSome o) (sym opened.there) refl

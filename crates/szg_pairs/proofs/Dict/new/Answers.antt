@@ -1,65 +1,88 @@
-use Rattle.std.proofs.Common.{refl}
+use Rattle.std.proofs.Common.{ℕ, ◌≡◌, ◌≢◌, ◌<◌, ◌≤◌, ◌∙◌, Some, None, length, get_or, refl, rules, tests, arith}
+use Rattle.std.proofs.lemmas.Iterator.{IsFirst-from_position, YieldsList-from_slice}
 use Rattle.szg_pairs.specs.Dictionary.{IsDictionary, IsDictionaryFault}
 use Rattle.szg_pairs.specs.declared.DictFault.TheVariants.{Child, Cycle, LongSymbol}
 use Rattle.szg_pairs.proofs.Accepting.{accepted_has_no_fault, is_cycle, is_long_symbol}
-use Rattle.szg_pairs.proofs.Judging.{first_endless, all_expand, first_too_long, dict_state}
+use Rattle.szg_pairs.proofs.Judging.{IsFirstIndex, first_endless, all_expand, first_too_long, dict_state}
 use Rattle.szg_pairs.proofs.Dict.new.Goals as goal
-use Rattle.szg_pairs.proofs.Dict.new.Goals.{After-drop-entries, After-drop-entries-in-Some-first_cycle, After-drop-entries-in-Some-first_long, In_default-first_long}
+use Rattle.szg_pairs.proofs.Dict.new.Goals.{After-drop-entries, After-drop-entries-in-Some-position, After-drop-entries-in-Some-position-2, In_default-position-2}
+
+-- ---- what the searches find
+
+first_unknown : (c : After-drop-entries-in-Some-position) → IsFirstIndex (λ n. n ≡ 0) c.in_ok-lengths.lengths.items c.in-Some-position.symbol
+first_unknown c =
+    let p = IsFirst-from_position _ _ (Some c.in-Some-position.symbol) (λ (n : ℕ). n ≡ 0) (λ (n : ℕ). n ≢ 0) c.in-Some-position.ensures.ran (YieldsList-from_slice c.in_ok-lengths.lengths.items (c.iter.ensures.rest ∙ c.deref-3.ensures.value)) (λ x q k. search (rules, tests)) (λ x q k. search (rules, tests)) in
+    record { there = p.0; before = λ k lt. p.2 k 0 (omega arith) lt; here = p.1 0 }
+
+all_known : (c : After-drop-entries-in-Some-position-2) → (s : ℕ) → s < length c.in_ok-lengths.lengths.items → 0 < get_or c.in_ok-lengths.lengths.items s 0
+all_known c s lt =
+    let p = IsFirst-from_position _ _ None (λ (n : ℕ). n ≡ 0) (λ (n : ℕ). n ≢ 0) c.in_default-position.ensures.ran (YieldsList-from_slice c.in_ok-lengths.lengths.items (c.iter.ensures.rest ∙ c.deref-3.ensures.value)) (λ x q k. search (rules, tests)) (λ x q k. search (rules, tests)) in
+    omega (arith, p s 0 (omega arith) lt)
+
+all_known_at_end : (c : In_default-position-2) → (s : ℕ) → s < length c.in_ok-lengths.lengths.items → 0 < get_or c.in_ok-lengths.lengths.items s 0
+all_known_at_end c s lt =
+    let p = IsFirst-from_position _ _ None (λ (n : ℕ). n ≡ 0) (λ (n : ℕ). n ≢ 0) c.in_default-position.ensures.ran (YieldsList-from_slice c.in_ok-lengths.lengths.items (c.iter.ensures.rest ∙ c.deref-3.ensures.value)) (λ x q k. search (rules, tests)) (λ x q k. search (rules, tests)) in
+    omega (arith, p s 0 (omega arith) lt)
+
+first_long : (c : After-drop-entries-in-Some-position-2) → IsFirstIndex (λ n. 256 < n) c.in_ok-lengths.lengths.items c.in-Some-position-2.symbol
+first_long c =
+    let p = IsFirst-from_position _ _ (Some c.in-Some-position-2.symbol) (λ (n : ℕ). 256 < n) (λ (n : ℕ). n ≤ 256) c.in-Some-position-2.ensures.ran (YieldsList-from_slice c.in_ok-lengths.lengths.items (c.iter-2.ensures.rest ∙ c.deref-4.ensures.value)) (λ x q k. search (rules, tests)) (λ x q k. search (rules, tests)) in
+    record { there = p.0; before = λ k lt more. absurd (omega (arith, more, p.2 k 0 (omega arith) lt)); here = p.1 0 }
+
+all_short : (c : In_default-position-2) → (s : ℕ) → s < length c.in_ok-lengths.lengths.items → get_or c.in_ok-lengths.lengths.items s 0 ≤ 256
+all_short c s lt =
+    let p = IsFirst-from_position _ _ None (λ (n : ℕ). 256 < n) (λ (n : ℕ). n ≤ 256) c.in_default-position-2.ensures.ran (YieldsList-from_slice c.in_ok-lengths.lengths.items (c.iter-2.ensures.rest ∙ c.deref-4.ensures.value)) (λ x q k. search (rules, tests)) (λ x q k. search (rules, tests)) in
+    p s 0 (omega arith) lt
 
 -- ---- the fault that is returned
 
 child : (c : After-drop-entries) → IsDictionaryFault c.args.entries.items (Child c.in-Some.symbol)
 child c = rw c.deref.ensures.value at c.in-Some.ensures
 
-cycle : (c : After-drop-entries-in-Some-first_cycle) → IsDictionaryFault c.args.entries.items (Cycle c.in-Some-first_cycle.symbol)
+cycle : (c : After-drop-entries-in-Some-position) → IsDictionaryFault c.args.entries.items (Cycle c.in-Some-position.symbol)
 cycle c =
-    let found = rw c.deref-2.ensures.value at c.in_ok-lengths.ensures in (
-      rw c.deref.ensures.value at c.in_default.ensures,
-      first_endless _ _ found c.in-Some-first_cycle.symbol (rw c.deref-3.ensures.value at c.in-Some-first_cycle.ensures),
-    )
+    let found = rw c.deref-2.ensures.value at c.in_ok-lengths.ensures in
+    (rw c.deref.ensures.value at c.in_default.ensures, first_endless _ _ found c.in-Some-position.symbol (first_unknown c))
 
-long_symbol : (c : After-drop-entries-in-Some-first_long) → IsDictionaryFault c.args.entries.items (LongSymbol c.in-Some-first_long.symbol)
+long_symbol : (c : After-drop-entries-in-Some-position-2) → IsDictionaryFault c.args.entries.items (LongSymbol c.in-Some-position-2.symbol)
 long_symbol c =
     let found = rw c.deref-2.ensures.value at c.in_ok-lengths.ensures in
-    let known = rw c.deref-3.ensures.value at c.in_default-first_cycle.ensures in (
-      all_expand _ _ found known,
-      first_too_long _ _ found known c.in-Some-first_long.symbol (rw c.deref-4.ensures.value at c.in-Some-first_long.ensures),
-    )
+    (all_expand _ _ found (all_known c), first_too_long _ _ found (all_known c) c.in-Some-position-2.symbol (first_long c))
 
 -- ---- refusals
 
 pub returns-in-Some-clause-long_symbol : goal.returns-in-Some-clause-long_symbol
 returns-in-Some-clause-long_symbol c s fault = is_long_symbol c.args.entries.items (Child c.in-Some.symbol) s (child c) fault
 
-pub returns-in-Some-first_cycle-clause-refused : goal.returns-in-Some-first_cycle-clause-refused
-returns-in-Some-first_cycle-clause-refused c = cycle c
+pub returns-in-Some-position-clause-refused : goal.returns-in-Some-position-clause-refused
+returns-in-Some-position-clause-refused c = cycle c
 
-pub returns-in-Some-first_cycle-clause-cycle : goal.returns-in-Some-first_cycle-clause-cycle
-returns-in-Some-first_cycle-clause-cycle c s fault = is_cycle c.args.entries.items (Cycle c.in-Some-first_cycle.symbol) s (cycle c) fault
+pub returns-in-Some-position-clause-cycle : goal.returns-in-Some-position-clause-cycle
+returns-in-Some-position-clause-cycle c s fault = is_cycle c.args.entries.items (Cycle c.in-Some-position.symbol) s (cycle c) fault
 
-pub returns-in-Some-first_cycle-clause-long_symbol : goal.returns-in-Some-first_cycle-clause-long_symbol
-returns-in-Some-first_cycle-clause-long_symbol c s fault = is_long_symbol c.args.entries.items (Cycle c.in-Some-first_cycle.symbol) s (cycle c) fault
+pub returns-in-Some-position-clause-long_symbol : goal.returns-in-Some-position-clause-long_symbol
+returns-in-Some-position-clause-long_symbol c s fault = is_long_symbol c.args.entries.items (Cycle c.in-Some-position.symbol) s (cycle c) fault
 
-pub returns-in-Some-first_long-clause-refused : goal.returns-in-Some-first_long-clause-refused
-returns-in-Some-first_long-clause-refused c = long_symbol c
+pub returns-in-Some-position-2-clause-refused : goal.returns-in-Some-position-2-clause-refused
+returns-in-Some-position-2-clause-refused c = long_symbol c
 
-pub returns-in-Some-first_long-clause-cycle : goal.returns-in-Some-first_long-clause-cycle
-returns-in-Some-first_long-clause-cycle c s fault = is_cycle c.args.entries.items (LongSymbol c.in-Some-first_long.symbol) s (long_symbol c) fault
+pub returns-in-Some-position-2-clause-cycle : goal.returns-in-Some-position-2-clause-cycle
+returns-in-Some-position-2-clause-cycle c s fault = is_cycle c.args.entries.items (LongSymbol c.in-Some-position-2.symbol) s (long_symbol c) fault
 
-pub returns-in-Some-first_long-clause-long_symbol : goal.returns-in-Some-first_long-clause-long_symbol
-returns-in-Some-first_long-clause-long_symbol c s fault = is_long_symbol c.args.entries.items (LongSymbol c.in-Some-first_long.symbol) s (long_symbol c) fault
+pub returns-in-Some-position-2-clause-long_symbol : goal.returns-in-Some-position-2-clause-long_symbol
+returns-in-Some-position-2-clause-long_symbol c s fault = is_long_symbol c.args.entries.items (LongSymbol c.in-Some-position-2.symbol) s (long_symbol c) fault
 
 -- ---- the dictionary
 
 pub invariant_of-result : goal.invariant_of-result
 invariant_of-result c =
     let found = rw c.deref-2.ensures.value at c.in_ok-lengths.ensures in
-    dict_state _ _ found (rw c.deref-3.ensures.value at c.in_default-first_cycle.ensures) (rw c.deref-4.ensures.value at c.in_default-first_long.ensures) c.requires
+    dict_state _ _ found (all_known_at_end c) (all_short c) c.requires
 
-accepted : (c : In_default-first_long) → IsDictionary c.args.entries.items
+accepted : (c : In_default-position-2) → IsDictionary c.args.entries.items
 accepted c =
     let found = rw c.deref-2.ensures.value at c.in_ok-lengths.ensures in
-    let state = dict_state _ _ found (rw c.deref-3.ensures.value at c.in_default-first_cycle.ensures) (rw c.deref-4.ensures.value at c.in_default-first_long.ensures) c.requires in
+    let state = dict_state _ _ found (all_known_at_end c) (all_short c) c.requires in
     state.dictionary
 
 pub returns-clause-accepted : goal.returns-clause-accepted

@@ -6,4 +6,4 @@ use Rattle.szg_place.proofs.laws.table_numbering.Goals as goal
 
 pub returns : goal.returns
 returns c = accepted_numbering c.args.table.now.contents c.args.table.now.filled
-    (subst (λ (x : Index). IsMaterial x.material) c.index.ensures.index c.index_fits.ensures.named) c.index.ensures.accepted
+    (subst (λ (x : Index). IsMaterial x.material) c.index.ensures.index c.material_info.ensures.named) c.index.ensures.accepted

@@ -28,17 +28,20 @@ step squares i n left added h e l a =
     ∙ ap (λ (m : ℕ). choose m left + binomial_sum (drop (i + 1) set)) (number_at squares i h ∙ sym e)
     ∙ ap (λ (k : ℕ). k + binomial_sum (drop (i + 1) set)) (sym a)
 
+pub bounds-from : goal.bounds-from
+bounds-from c = let inside = c.requires.inside c.loop-square.square-index (omega arith) in let e = c.from.ensures in omega (arith, inside, e)
+
 pub choose-number-requires-clause-things : goal.choose-number-requires-clause-things
 choose-number-requires-clause-things c =
     let below = number_below c.args.squares.now c.loop-square.square-index (omega arith) c.requires.falling in
-    let small = subst (λ (n : ℕ). n < 64) (sym c.pawn_number.ensures) below in
-    omega (arith, small, c.from.ensures)
+    let number = c.from-in-loop-square.ensures ∙ ap pawn_number c.from.ensures in
+    omega (arith, below, number)
 
 pub overflow_add-number : goal.overflow_add-number
 overflow_add-number c =
     let set = map pawn_number c.args.squares.now in
-    let here = step c.args.squares.now c.loop-square.square-index c.from.result c.loop-square.left c.choose-number.result
-    (omega arith) (c.from.ensures ∙ c.pawn_number.ensures) c.loop-square.invariant.left c.choose-number.ensures.count in
+    let here = step c.args.squares.now c.loop-square.square-index c.from-in-loop-square.result c.loop-square.left c.choose-number.result
+    (omega arith) (c.from-in-loop-square.ensures ∙ ap pawn_number c.from.ensures) c.loop-square.invariant.left c.choose-number.ensures.count in
     let long = length-map c.args.squares.now pawn_number in
     let few = c.requires.few in let now = c.loop-square.invariant.number in
     let bound = binomial_sum-bound 64 set (omega arith) c.requires.falling (omega (arith, few, long)) in
@@ -47,8 +50,8 @@ overflow_add-number c =
 
 pub loop-square-preserved : goal.loop-square-preserved
 loop-square-preserved c =
-    let here = step c.args.squares.now c.loop-square.square-index c.from.result c.loop-square.left c.choose-number.result
-    (omega arith) (c.from.ensures ∙ c.pawn_number.ensures) c.loop-square.invariant.left c.choose-number.ensures.count in
+    let here = step c.args.squares.now c.loop-square.square-index c.from-in-loop-square.result c.loop-square.left c.choose-number.result
+    (omega arith) (c.from-in-loop-square.ensures ∙ ap pawn_number c.from.ensures) c.loop-square.invariant.left c.choose-number.ensures.count in
     let now = c.loop-square.invariant.number in
     record { number = omega (arith, now, here); left = omega arith }
 

@@ -1,4 +1,4 @@
-use Rattle.std.proofs.Common.{◌≡◌, ◌+◌, ◌-◌, ◌*◌, ◌<◌, ℕ, List, ◌∷◌, length, map, sym, ap, ◌∙◌, subst, arith}
+use Rattle.std.proofs.Common.{◌≡◌, ◌+◌, ◌-◌, ◌*◌, ◌<◌, ℕ, List, [], ◌∷◌, ◌++◌, length, map, sym, ap, ◌∙◌, subst, arith}
 use Rattle.std.specs.Prelude.{Some, slice_get, slice_index}
 use Rattle.szg_count.specs.Sets.{subsets, IsFallingBelow}
 use Rattle.szg_count.specs.Leads.{lead_pawn_sets}
@@ -24,8 +24,8 @@ unrank_subset-numbers-requires-clause-numbers c =
     let few = after_fewer file (rank - 1) c.requires.file (omega (arith, a, b)) in
     omega (arith, n, few)
 
-pub squares_from-requires-clause-below : goal.squares_from-requires-clause-below
-squares_from-requires-clause-below c = λ n i.
+pub append_pawns-requires-clause-below : goal.append_pawns-requires-clause-below
+append_pawns-requires-clause-below c = λ n i.
     let file = c.args.file in let rank = c.first_rank-rank.result in
     let a = c.first_rank-rank.ensures.second in let b = c.first_rank-rank.ensures.seventh in
     let m = count_is file rank c.from-2.result c.requires.file a b c.from-2.ensures in
@@ -48,7 +48,8 @@ returns c =
     let w : c.ways_before.result ≡ slice_index WAYS_BEFORE (24 * (pawns - 1) + 6 * file + r) =
     c.ways_before.ensures.ways ∙ ap (λ n. slice_index WAYS_BEFORE (24 * (n - 1) + 6 * file + r)) c.from.ensures in
     let number : c.args.number ≡ slice_index WAYS_BEFORE (24 * (pawns - 1) + 6 * file + r) + j = let f = c.first_rank-rank.ensures.from in omega (arith, w, f) in
-    let stated : c.squares_from.result.items ≡ first_square file r ∷ map (slice_index PAWN_SQUARES) nums =
-    c.squares_from.ensures ∙ ap (λ (l : List ℕ). (8 * rank + file) ∷ map (slice_index PAWN_SQUARES) l) c.as_slice.ensures.value
+    let one : c.push.new.self.items ≡ (8 * rank + file) ∷ [] = c.push.ensures.items ∙ ap (λ (l : List ℕ). l ++ (8 * rank + file) ∷ []) c.new-squares.ensures in
+    let stated : c.append_pawns.new.squares.items ≡ first_square file r ∷ map (slice_index PAWN_SQUARES) nums =
+    c.append_pawns.ensures ∙ ap (λ (l : List ℕ). l ++ map (slice_index PAWN_SQUARES) c.as_slice.result.now) one ∙ ap (λ (l : List ℕ). (8 * rank + file) ∷ map (slice_index PAWN_SQUARES) l) c.as_slice.ensures.value
     ∙ ap (λ x. x ∷ map (slice_index PAWN_SQUARES) nums) (square_is file rank a) in
     ap (λ n. slice_get (lead_pawn_sets pawns file) n) number ∙ found ∙ ap Some (sym stated)

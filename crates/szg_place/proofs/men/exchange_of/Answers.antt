@@ -1,5 +1,5 @@
 use Rattle.std.proofs.Common.{◌≡◌, ◌≢◌, ◌<◌, cond, ◌⊎◌, inl, inr, ℕ, List, refl, sym, ap, subst, ◌∙◌, Bool, true, false}
-use Rattle.std.specs.Prelude.{IsNone, ◌==◌, ◌&&◌}
+use Rattle.std.specs.Prelude.{IsNone, ◌==◌, ◌&&◌, ◌||◌}
 use Rattle.std.proofs.Math.Bool.{not}
 use Rattle.std.proofs.lemmas.Bool.{cases_Bool, eq-eqb, eqb-true}
 use Rattle.szg_values.specs.Men.{is_color}
@@ -29,6 +29,13 @@ one_of m board list key stated own twin result mat e sound k t o w same other so
 clash : (b : Bool) → b ≡ false → b ≡ true → ⊥
 clash b e f = cc
 
+-- colours are exchanged by the keys, or where both sides have the same men and Black is to move
+by_keys : (key own : ℕ) (twin : Bool) → (key ≡ own → (not (key == own) || twin) ≡ twin) × (key ≢ own → (not (key == own) || twin) ≡ true)
+by_keys key own twin = elim (cases_Bool (key == own)) [
+  | inl t ↦ ((λ h. ap (λ (b : Bool). not b || twin) t), (λ h. absurd (h (eqb-true key own t))))
+  | inr f ↦ ((λ h. absurd (clash (key == own) f (eq-eqb key own h))), (λ h. ap (λ (b : Bool). not b || twin) f))
+]
+
 -- the key that is compared with the placement's is the material's if they are the same, else the one with colours exchanged
 chosen : (key own due : ℕ) → due ≡ cond (not (key == own)) (with_exchanged_halves own) own → ((key ≡ own) × (due ≡ own)) ⊎ ((key ≡ own → ⊥) × (due ≡ with_exchanged_halves own))
 chosen key own due e = elim (cases_Bool (key == own)) [
@@ -51,29 +58,31 @@ one key stated own due small t e same = elim (chosen key own due e) [
 pub returns-then-key-key_if-clause-other : goal.returns-then-key-key_if-clause-other
 returns-then-key-key_if-clause-other c =
     let m = c.args.material.now in let board = c.args.placement.now in let list = board.placed_men in let key = c.key-key.ensures in
-    let stated = with_exchanged_halves c.key-key.result in let sound = c.men_fit.ensures.no_fault in
+    let stated = with_exchanged_halves c.key-key.result in let sound = subst (λ (l : List PlacedMan). IsNone (placement_fault l)) c.men.ensures.men c.men.ensures.no_fault in
     let due : c.key_if.result ≡ cond (not (c.key-key.result == c.key-own.result)) (with_exchanged_halves c.key-own.result) c.key-own.result =
     c.key_if.ensures ∙ ap (λ (k : ℕ). cond (not (c.key-key.result == c.key-own.result)) (with_exchanged_halves k) k) (sym c.key-own.ensures.key) in
     let small = subst (λ (k : ℕ). k < 281474976710656) (sym key) (men_key-small list (few_men list sound)) in
     let n = neither c.key-key.result stated c.key-own.result c.key_if.result small refl due c.if-key-key_if.true in
-    other_if m board list c.key-key.result stated c.key-own.result c.material_fits.ensures refl sound key (turned list c.key-key.result stated sound key refl) c.key-own.ensures.key n.0 n.1
+    other_if m board list c.key-key.result stated c.key-own.result c.material.ensures.named refl sound key (turned list c.key-key.result stated sound key refl) c.key-own.ensures.key n.0 n.1
 
 pub returns-clause-men : goal.returns-clause-men
 returns-clause-men c =
     let m = c.args.material.now in let board = c.args.placement.now in let list = board.placed_men in let key = c.key-key.ensures in
-    let stated = with_exchanged_halves c.key-key.result in let sound = c.men_fit.ensures.no_fault in
+    let stated = with_exchanged_halves c.key-key.result in let sound = subst (λ (l : List PlacedMan). IsNone (placement_fault l)) c.men.ensures.men c.men.ensures.no_fault in
     let due : c.key_if.result ≡ cond (not (c.key-key.result == c.key-own.result)) (with_exchanged_halves c.key-own.result) c.key-own.result =
     c.key_if.ensures ∙ ap (λ (k : ℕ). cond (not (c.key-key.result == c.key-own.result)) (with_exchanged_halves k) k) (sym c.key-own.ensures.key) in
-    (one_of m board list c.key-key.result stated c.key-own.result c.is_symmetric_with_black_to_move-symmetric_with_black.result c.are_colors_exchanged.result c.material_fits.ensures refl sound key
-    (turned list c.key-key.result stated sound key refl) c.key-own.ensures.key c.is_symmetric_with_black_to_move-symmetric_with_black.ensures c.are_colors_exchanged.ensures.same c.are_colors_exchanged.ensures.other
+    let by = by_keys c.key-key.result c.key-own.result c.is_symmetric_with_black_to_move-symmetric_with_black.result in
+    (one_of m board list c.key-key.result stated c.key-own.result c.is_symmetric_with_black_to_move-symmetric_with_black.result (not (c.key-key.result == c.key-own.result) || c.is_symmetric_with_black_to_move-symmetric_with_black.result) c.material.ensures.named refl sound key
+    (turned list c.key-key.result stated sound key refl) c.key-own.ensures.key c.is_symmetric_with_black_to_move-symmetric_with_black.ensures by.0 by.1
     (one c.key-key.result stated c.key-own.result c.key_if.result c.key-own.ensures.small refl due c.if-key-key_if.false)).0
 
 pub returns-clause-exchanged : goal.returns-clause-exchanged
 returns-clause-exchanged c =
     let m = c.args.material.now in let board = c.args.placement.now in let list = board.placed_men in let key = c.key-key.ensures in
-    let stated = with_exchanged_halves c.key-key.result in let sound = c.men_fit.ensures.no_fault in
+    let stated = with_exchanged_halves c.key-key.result in let sound = subst (λ (l : List PlacedMan). IsNone (placement_fault l)) c.men.ensures.men c.men.ensures.no_fault in
     let due : c.key_if.result ≡ cond (not (c.key-key.result == c.key-own.result)) (with_exchanged_halves c.key-own.result) c.key-own.result =
     c.key_if.ensures ∙ ap (λ (k : ℕ). cond (not (c.key-key.result == c.key-own.result)) (with_exchanged_halves k) k) (sym c.key-own.ensures.key) in
-    (one_of m board list c.key-key.result stated c.key-own.result c.is_symmetric_with_black_to_move-symmetric_with_black.result c.are_colors_exchanged.result c.material_fits.ensures refl sound key
-    (turned list c.key-key.result stated sound key refl) c.key-own.ensures.key c.is_symmetric_with_black_to_move-symmetric_with_black.ensures c.are_colors_exchanged.ensures.same c.are_colors_exchanged.ensures.other
+    let by = by_keys c.key-key.result c.key-own.result c.is_symmetric_with_black_to_move-symmetric_with_black.result in
+    (one_of m board list c.key-key.result stated c.key-own.result c.is_symmetric_with_black_to_move-symmetric_with_black.result (not (c.key-key.result == c.key-own.result) || c.is_symmetric_with_black_to_move-symmetric_with_black.result) c.material.ensures.named refl sound key
+    (turned list c.key-key.result stated sound key refl) c.key-own.ensures.key c.is_symmetric_with_black_to_move-symmetric_with_black.ensures by.0 by.1
     (one c.key-key.result stated c.key-own.result c.key_if.result c.key-own.ensures.small refl due c.if-key-key_if.false)).1

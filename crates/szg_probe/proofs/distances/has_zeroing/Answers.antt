@@ -1,32 +1,38 @@
-use Rattle.std.specs.Prelude.{Result, IfOk, Ok, Err, ◌≡◌, ◌&&◌, Bool, false, Some, List, All, Contains, filter, map}
-use Rattle.std.specs.List.{list_any}
-use Rattle.std.proofs.Common.{◌∙◌, sym, subst}
-use Rattle.std.proofs.lemmas.List.Elements.{All-contains_itself}
-use Rattle.szg_values.specs.Men.{is_man, is_color}
-use Rattle.szg_values.specs.declared.Man.TheVariants.{Pawn}
-use Rattle.szg_game.specs.declared.Class.{Class}
-use Rattle.szg_chess.specs.declared.Move.{Move}
-use Rattle.szg_chess.specs.Position.{Position}
-use Rattle.szg_chess.specs.Moves.{is_capture, legal_moves}
-use Rattle.szg_probe.specs.Probing.{StoredClasses}
-use Rattle.szg_probe.specs.Distances.{any_known, has_zeroing, keeps_by_zeroing}
-use Rattle.szg_probe.proofs.Moves.{zeroing_by_captures}
+use Rattle.std.proofs.Common.{◌∙◌, ap, sym, arith, Bool, Some}
+use Rattle.szg_probe.specs.Distances.{keeps_by_zeroing}
+use Rattle.szg_probe.proofs.Moves.{by_zeroing, carried, none_next, none_whole, some_at, zeroing_at}
 use Rattle.szg_probe.proofs.distances.has_zeroing.Goals as goal
 
-pub some_keeps-requires : goal.some_keeps-requires
-some_keeps-requires g c =
-    let ms = c.as_slice.result.now in
-    subst (λ (all : List Move). All (Contains all) ms) (c.as_slice.ensures.value ∙ c.legal_moves.ensures) (All-contains_itself ms)
+pub keeps_by_zeroing-requires-clause-legal : goal.keeps_by_zeroing-requires-clause-legal
+keeps_by_zeroing-requires-clause-legal g c =
+    (zeroing_at c.args.position.now c.as_slice-m-items.result.now c.loop-m.m-index c.m-item.result (c.as_slice-m-items.ensures.value ∙ c.zeroing_moves-moves.ensures) c.loop-m-test.true c.m-item.is).0
 
-pub some_keeps-requires-else-has_pawn : goal.some_keeps-requires-else-has_pawn
-some_keeps-requires-else-has_pawn g c = subst (All (Contains (legal_moves c.args.position.now))) (sym c.as_slice-else-has_pawn.ensures.value) c.captures-2.ensures.legal
+pub keeps_by_zeroing-requires-clause-zeroing : goal.keeps_by_zeroing-requires-clause-zeroing
+keeps_by_zeroing-requires-clause-zeroing g c =
+    (zeroing_at c.args.position.now c.as_slice-m-items.result.now c.loop-m.m-index c.m-item.result (c.as_slice-m-items.ensures.value ∙ c.zeroing_moves-moves.ensures) c.loop-m-test.true c.m-item.is).1
 
-among : {E : Type 0} (r : Result Bool E) (classes : StoredClasses) (p : Position) (k : Class) (captures : List Move) → list_any (λ s. is_man Pawn s.0 && is_color p.mover s.1) p.placed_men ≡ false → captures ≡ filter (is_capture p) (legal_moves p) →
-    IfOk r (λ b. any_known (map (keeps_by_zeroing classes p k) captures) ≡ Some b) → IfOk r (λ b. has_zeroing classes p k ≡ Some b)
-among (Ok b) classes p k captures none same h = zeroing_by_captures classes p k b captures none same h
-among (Err e) classes p k captures none same h = h
+pub returns-in-Ok-true-clause-zeroing : goal.returns-in-Ok-true-clause-zeroing
+returns-in-Ok-true-clause-zeroing g c =
+    let p = c.args.position.now in
+    let k = c.args.class in
+    let m = c.m-item.result in
+    let here = carried (λ s n. keeps_by_zeroing s p k m) (g.T.Tables.stored c.loop-m.tables) (g.T.Tables.stored c.args.tables.now) (g.T.Tables.numbers c.loop-m.tables) (g.T.Tables.numbers c.args.tables.now) _ (ap g.T.Tables.stored c.loop-m.invariant.0) (ap g.T.Tables.numbers c.loop-m.invariant.0) (c.in-Ok-true.ensures.keeps ∙ ap (λ (b : Bool). Some b) c.in-Ok-true.field-0-test) in
+    sym (by_zeroing (g.T.Tables.stored c.args.tables.now) p k)
+    ∙ some_at (keeps_by_zeroing (g.T.Tables.stored c.args.tables.now) p k) c.as_slice-m-items.result.now _ c.loop-m.m-index m (c.as_slice-m-items.ensures.value ∙ c.zeroing_moves-moves.ensures) c.loop-m-test.true c.m-item.is here
 
-pub returns-else-has_pawn-clause-zeroing : goal.returns-else-has_pawn-clause-zeroing
-returns-else-has_pawn-clause-zeroing g c =
-    among c.some_keeps-else-has_pawn.result (g.T.Tables.stored c.args.tables.now) c.args.position.now c.args.class c.as_slice-else-has_pawn.result.now (sym c.has_pawn.ensures ∙ c.if-has_pawn.false)
-    (c.as_slice-else-has_pawn.ensures.value ∙ c.captures-2.ensures.all) c.some_keeps-else-has_pawn.ensures.keeps
+pub loop-m-preserved : goal.loop-m-preserved
+loop-m-preserved g c =
+    let p = c.args.position.now in
+    let k = c.args.class in
+    let m = c.m-item.result in
+    let before = c.loop-m.invariant in
+    let here = carried (λ s n. keeps_by_zeroing s p k m) (g.T.Tables.stored c.loop-m.tables) (g.T.Tables.stored c.args.tables.now) (g.T.Tables.numbers c.loop-m.tables) (g.T.Tables.numbers c.args.tables.now) _ (ap g.T.Tables.stored before.0) (ap g.T.Tables.numbers before.0) (c.in-Ok-false.ensures.keeps ∙ ap (λ (b : Bool). Some b) c.in-Ok-false.field-0-test) in (
+      c.keeps_by_zeroing.ensures.same ∙ before.0,
+      none_next (keeps_by_zeroing (g.T.Tables.stored c.args.tables.now) p k) c.as_slice-m-items.result.now c.loop-m.m-index m c.loop-m-test.true c.m-item.is before.1 here,
+    )
+
+pub returns-clause-zeroing : goal.returns-clause-zeroing
+returns-clause-zeroing g c =
+    let p = c.args.position.now in let k = c.args.class in
+    sym (by_zeroing (g.T.Tables.stored c.args.tables.now) p k)
+    ∙ none_whole (keeps_by_zeroing (g.T.Tables.stored c.args.tables.now) p k) c.as_slice-m-items.result.now _ c.loop-m.m-index (c.as_slice-m-items.ensures.value ∙ c.zeroing_moves-moves.ensures) (omega arith) c.loop-m.invariant.1

@@ -1,5 +1,5 @@
 use Rattle.std.proofs.Common.{◌≡◌, [], drop, map}
-use Rattle.szg_sums.specs.Parts.{parts_of}
+use Rattle.szg_sums.specs.Names.{parts_of}
 use Rattle.szg_sums.proofs.Naming.{parts_with}
 use Rattle.szg_sums.proofs.paths.parts_of.Given as goal
 

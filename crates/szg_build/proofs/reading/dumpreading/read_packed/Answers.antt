@@ -1,4 +1,4 @@
-use Rattle.std.proofs.Common.{ℕ, List, ◌++◌, sym, subst, ap, Ok, Err}
+use Rattle.std.proofs.Common.{ℕ, List, ◌++◌, sym, subst, refl, Ok, Err}
 use Rattle.std.specs.Prelude.{Result, IsOk}
 use Rattle.szg_build.specs.declared.dump.DumpReadFault.{DumpReadFault}
 use Rattle.szg_build.specs.Chosen.{ToBuild}
@@ -17,13 +17,15 @@ no_ok X fault e = absurd cc
 
 pub returns-in-Ok-clause-verdict : goal.returns-in-Ok-clause-verdict
 returns-in-Ok-clause-verdict g c =
-    let read = reads_other dump_format gathered_dump (λ (z : ToBuild). z.dump) c.in-Ok.gathered c.packed_dump.result (ap (λ z. z.dump) c.packed_dump.ensures) c.in-Ok.ensures.lines in
-    where_parsed (g.R.Input.coming c.args.input.now) (λ bytes. FollowsLines (λ (z : ToBuild). z.dump) (verdict dump_format 0 bytes) (Ok c.packed_dump.result) (g.R.Input.coming c.read_gathered.new.input))
+    let packed : ToBuild = record { dump = gathered_dump c.in-Ok.gathered; choice = c.args.choice } in
+    let read = reads_other dump_format gathered_dump (λ (z : ToBuild). z.dump) c.in-Ok.gathered packed refl c.in-Ok.ensures.lines in
+    where_parsed (g.R.Input.coming c.args.input.now) (λ bytes. FollowsLines (λ (z : ToBuild). z.dump) (verdict dump_format 0 bytes) (Ok packed) (g.R.Input.coming c.read_gathered.new.input))
     (λ all e. known_reads (λ (z : ToBuild). z.dump) dump_format read c.new-incoming.ensures.line c.new-incoming.ensures.held (λ _. c.in-Ok.ensures.held) all e)
 
 pub returns-in-Ok-clause-taken : goal.returns-in-Ok-clause-taken
 returns-in-Ok-clause-taken g c =
-    let read = reads_other dump_format gathered_dump (λ (z : ToBuild). z.dump) c.in-Ok.gathered c.packed_dump.result (ap (λ z. z.dump) c.packed_dump.ensures) c.in-Ok.ensures.lines in
+    let packed : ToBuild = record { dump = gathered_dump c.in-Ok.gathered; choice = c.args.choice } in
+    let read = reads_other dump_format gathered_dump (λ (z : ToBuild). z.dump) c.in-Ok.gathered packed refl c.in-Ok.ensures.lines in
     reads_taken (λ (z : ToBuild). z.dump) dump_format read c.new-incoming.ensures.line c.new-incoming.ensures.held (λ _. c.in-Ok.ensures.held)
 
 pub returns-in-Err-clause-verdict : goal.returns-in-Err-clause-verdict

@@ -1,27 +1,25 @@
-use Rattle.std.proofs.Common.{◌≡◌, ◌+◌, ◌≤◌, length, arith}
+use Rattle.std.proofs.Common.{◌≡◌, ◌≤◌, arith}
 use Rattle.szg_code.proofs.checks.CodeHeader.start_of.Goals as goal
 
-pub reached_index_from-requires : goal.reached_index_from-requires
-reached_index_from-requires c =
-    let each : length c.args.self.now.lowest.items + c.args.self.now.min ≡ c.args.self.now.max + 1 = c.requires.accepted.lengths.each in
+pub reached_length_from-requires : goal.reached_length_from-requires
+reached_length_from-requires c =
     let order : c.args.self.now.min ≤ c.args.self.now.max = c.requires.accepted.lengths.in_order in
+    let min : c.from-2.result ≡ c.args.self.now.min = c.from-2.ensures in
     record {
       accepted = c.requires.accepted;
       bases = c.requires.bases;
-      inside = omega (arith, each, order);
-      before = λ k less. absurd (omega (arith, less));
+      long = omega (arith, min);
+      short = omega (arith, min, order);
+      before = λ k long less. absurd (omega (arith, min, long, less));
     }
 
 pub overflow_cast-result : goal.overflow_cast-result
-overflow_cast-result c =
-    let each : length c.args.self.now.lowest.items + c.args.self.now.min ≡ c.args.self.now.max + 1 = c.requires.accepted.lengths.each in
-    let most : c.args.self.now.max ≤ 32 = c.requires.accepted.lengths.at_most in
-    let inside = c.reached_index_from.ensures.inside in
-    omega (arith, each, most, inside)
+overflow_cast-result c = let most : c.args.self.now.max ≤ 32 = c.requires.accepted.lengths.at_most in omega (arith, most, c.reached_length_from.ensures.short)
 
 pub returns : goal.returns
 returns c = record {
-  inside = c.reached_index_from.ensures.inside;
-  before = λ k less. let h = c.reached_index_from.ensures.before k less in omega (arith, h, c.from.ensures);
-  reached = let h = c.reached_index_from.ensures.reaches in omega (arith, h, c.from.ensures);
+  long_enough = c.reached_length_from.ensures.long;
+  short_enough = c.reached_length_from.ensures.short;
+  before = λ k long less. let h = c.reached_length_from.ensures.before k long less in omega (arith, h, c.from.ensures);
+  reached = let h = c.reached_length_from.ensures.reaches in omega (arith, h, c.from.ensures);
 }

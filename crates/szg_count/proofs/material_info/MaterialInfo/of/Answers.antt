@@ -23,6 +23,6 @@ invariant_of-result c =
       lead_is = c.lead_pawns.ensures ∙ ap lead_pawns (sym c.copy.ensures);
       other_is = c.other_pawns.ensures ∙ ap other_pawns (sym c.copy.ensures);
       code_is = c.lead_pawn_code.ensures ∙ ap lead_pawn_code (sym c.copy.ensures);
-      keys_are = ap (λ (n : ℕ). c.codes_key-key.result ∷ n ∷ []) c.with_exchanged_halves.ensures ∙ ap (λ (n : ℕ). n ∷ with_exchanged_halves n ∷ []) named;
+      keys_are = ap (λ (n : ℕ). n ∷ with_exchanged_halves n ∷ []) named;
       small = subst (λ (n : ℕ). n < 281474976710656) named c.codes_key-key.ensures.small;
     }

@@ -1,5 +1,6 @@
 use Rattle.std.proofs.Common.{arith, ap, ◌∙◌}
 use Rattle.std.proofs.lemmas.Result.{err_from_is_err_and}
+use lib.Dec.{leb-zero}
 use Rattle.szg_code.specs.Canonical.{CanonicalCode}
 use Rattle.szg_file.specs.Format.{means}
 use Rattle.szg_file.specs.File.{lowest_list, dictionary}
@@ -14,8 +15,8 @@ returns-in_err-span_bits-clause-head g c =
     let flags = c.args.flags in
     let p = err_from_is_err_and c.from_residual-in_err-span_bits.result c.from_residual-in_err-span_bits.ensures.1 in
     rw (p.1, p.2, packed_steps flags)
-    (reads_then block_bits_field (after_block flags) (λ b. b) subtable_of c.in_ok-block_bits.block_bits c.in_ok-block_bits.ensures.bits
-    (reads_stopped span_bits_field (after_span flags c.in_ok-block_bits.block_bits) (λ b. b) subtable_of c.in_err-span_bits.field-0.0 c.in_err-span_bits.ensures.bits))
+    (reads_then block_bits_field (after_block flags) (λ b. b) subtable_of c.in_ok-block_bits.block_bits (simp leb-zero at c.in_ok-block_bits.ensures.byte)
+    (reads_stopped span_bits_field (after_span flags c.in_ok-block_bits.block_bits) (λ b. b) subtable_of c.in_err-span_bits.field-0.0 c.in_err-span_bits.ensures.byte))
 
 pub returns-in_err-sizes-clause-head : goal.returns-in_err-sizes-clause-head
 returns-in_err-sizes-clause-head g c =
@@ -24,8 +25,8 @@ returns-in_err-sizes-clause-head g c =
     let sb = c.in_ok-span_bits.span_bits in
     let p = err_from_is_err_and c.from_residual-in_err-sizes.result c.from_residual-in_err-sizes.ensures.1 in
     rw (p.1, p.2, packed_steps flags)
-    (reads_then block_bits_field (after_block flags) (λ b. b) subtable_of bb c.in_ok-block_bits.ensures.bits
-    (reads_then span_bits_field (after_span flags bb) (λ b. b) subtable_of sb c.in_ok-span_bits.ensures.bits
+    (reads_then block_bits_field (after_block flags) (λ b. b) subtable_of bb (simp leb-zero at c.in_ok-block_bits.ensures.byte)
+    (reads_then span_bits_field (after_span flags bb) (λ b. b) subtable_of sb c.in_ok-span_bits.ensures.byte
     (reads_stopped sizes_field (after_sizes flags bb sb) (λ z. z) subtable_of c.in_err-sizes.field-0.0 c.in_err-sizes.ensures.sizes)))
 
 pub read_lowest-requires-clause-place : goal.read_lowest-requires-clause-place
@@ -44,8 +45,8 @@ returns-in_err-lowest-clause-head g c =
     let sizes = c.in_ok-sizes.sizes in
     let p = err_from_is_err_and c.from_residual-in_err-lowest.result c.from_residual-in_err-lowest.ensures.1 in
     rw (p.1, p.2, packed_steps flags)
-    (reads_then block_bits_field (after_block flags) (λ b. b) subtable_of bb c.in_ok-block_bits.ensures.bits
-    (reads_then span_bits_field (after_span flags bb) (λ b. b) subtable_of sb c.in_ok-span_bits.ensures.bits
+    (reads_then block_bits_field (after_block flags) (λ b. b) subtable_of bb (simp leb-zero at c.in_ok-block_bits.ensures.byte)
+    (reads_then span_bits_field (after_span flags bb) (λ b. b) subtable_of sb c.in_ok-span_bits.ensures.byte
     (reads_then sizes_field (after_sizes flags bb sb) (λ z. z) subtable_of sizes c.in_ok-sizes.ensures.sizes
     (reads_stopped (lowest_list sizes.min sizes.max) (after_lowest flags bb sb sizes) (λ k. k.lowest) subtable_of c.in_err-lowest.field-0.0 c.in_err-lowest.ensures.lowest))))
 
@@ -75,8 +76,8 @@ returns-in_err-dict-clause-head g c =
     let lowest = c.in_ok-lowest.lowest in
     let p = err_from_is_err_and c.from_residual-in_err-dict.result c.from_residual-in_err-dict.ensures.1 in
     rw (p.1, p.2, packed_steps flags)
-    (reads_then block_bits_field (after_block flags) (λ b. b) subtable_of bb c.in_ok-block_bits.ensures.bits
-    (reads_then span_bits_field (after_span flags bb) (λ b. b) subtable_of sb c.in_ok-span_bits.ensures.bits
+    (reads_then block_bits_field (after_block flags) (λ b. b) subtable_of bb (simp leb-zero at c.in_ok-block_bits.ensures.byte)
+    (reads_then span_bits_field (after_span flags bb) (λ b. b) subtable_of sb c.in_ok-span_bits.ensures.byte
     (reads_then sizes_field (after_sizes flags bb sb) (λ z. z) subtable_of sizes c.in_ok-sizes.ensures.sizes
     (reads_then (lowest_list sizes.min sizes.max) (after_lowest flags bb sb sizes) (λ k. k.lowest) subtable_of lowest c.in_ok-lowest.ensures.lowest
     (reads_stopped dictionary (λ entries. means (packed_of flags bb sb sizes lowest.lowest entries)) (λ d. d) subtable_of c.in_err-dict.field-0.0 c.in_err-dict.ensures.dictionary)))))
@@ -90,8 +91,8 @@ returns-clause-head g c =
     let lowest = c.in_ok-lowest.lowest in
     let dict = c.in_ok-dict.dict in
     rw (packed_steps flags)
-    (reads_then block_bits_field (after_block flags) (λ b. b) subtable_of bb c.in_ok-block_bits.ensures.bits
-    (reads_then span_bits_field (after_span flags bb) (λ b. b) subtable_of sb c.in_ok-span_bits.ensures.bits
+    (reads_then block_bits_field (after_block flags) (λ b. b) subtable_of bb (simp leb-zero at c.in_ok-block_bits.ensures.byte)
+    (reads_then span_bits_field (after_span flags bb) (λ b. b) subtable_of sb c.in_ok-span_bits.ensures.byte
     (reads_then sizes_field (after_sizes flags bb sb) (λ z. z) subtable_of sizes c.in_ok-sizes.ensures.sizes
     (reads_then (lowest_list sizes.min sizes.max) (after_lowest flags bb sb sizes) (λ k. k.lowest) subtable_of lowest c.in_ok-lowest.ensures.lowest
     (reads_then dictionary (λ entries. means (packed_of flags bb sb sizes lowest.lowest entries)) (λ d. d) subtable_of dict c.in_ok-dict.ensures.dictionary
@@ -104,7 +105,7 @@ returns-clause-headed g c = (
   flag_is_clear c.args.flags c.requires.flags,
   (
     c.in_ok-block_bits.ensures.most,
-    c.in_ok-span_bits.ensures.some,
+    c.in_ok-span_bits.ensures.least,
     c.in_ok-span_bits.ensures.most,
     ap (λ (k : CanonicalCode). k.symbols) c.with_symbols-code.ensures.code ∙ c.symbols.ensures.number,
   ),

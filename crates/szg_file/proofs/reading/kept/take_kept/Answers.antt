@@ -4,7 +4,7 @@ use Rattle.szg_file.specs.Contents.{number_of, items}
 use Rattle.szg_file.specs.Format.{field, means}
 use Rattle.szg_file.specs.Kept.{IsKept}
 use Rattle.szg_file.specs.declared.fault.ReadFault.TheVariants.{Memory}
-use Rattle.szg_file.proofs.Readers.KeptRows.{kept_within}
+use Rattle.szg_file.proofs.Readers.KeptRows.{kept_begins, kept_within}
 use Rattle.szg_file.proofs.Readers.LoopReads.{reads_lacking}
 use Rattle.szg_file.proofs.Readers.RowsRead.{RowsRead, rows_none, rows_on, rows_done, rows_stopped}
 use Rattle.szg_file.proofs.reading.kept.take_kept.Goals as goal
@@ -13,9 +13,9 @@ pub chunks-init : goal.chunks-init
 chunks-init g c = record {
   left = omega arith;
   list = [];
-  kept = c.new-kept.ensures.kept c.args.limit c.args.last;
+  kept = kept_begins c.args.limit c.args.last _ c.new.ensures.items refl refl refl;
   rows = rows_none number_of 2 (c.args.count - c.args.count) [] (omega arith) refl;
-  seen = omega (arith, c.new-kept.ensures.seen);
+  seen = omega arith;
   place = omega arith;
   growth = omega arith;
   fill = omega arith;

@@ -25,22 +25,22 @@ returns-in-Found-clause-object g c =
     let tables = c.answer.new.self.tables.items in
     let moves : List MoveAfter = c.as_slice-in-Found.result.now in
     let found = subst (λ (f : OrPiece (Vec MoveAfter Global)). IfFound f (λ (ss : Vec MoveAfter Global). AreAfter files words tables p c.as_slice.result.now ss.items)) c.in-Found.is c.in_ok-moves.ensures.after in
-    let after : AreAfter files words tables p c.in-Ok-answer.answer.moves.items moves =
+    let after : AreAfter files words tables p c.in_ok-answer.answer.moves.items moves =
     subst (λ (rs : List RankedMove). AreAfter files words tables p rs moves) c.as_slice.ensures.value
     (subst (λ (ss : List MoveAfter). AreAfter files words tables p c.as_slice.result.now ss) (sym c.as_slice-in-Found.ensures.value) found) in
     subst (λ (ts : List FetchedTable). IsObjectOf (g.S.FileSystem.content c.args.system.now) (words_of c.args.self.now) ts c.args.fen.now (string_bytes c.in_ok-object_of-in-Found.field-0)) (sym c.moves_after.ensures.tables)
     (object_is (g.S.FileSystem.content c.args.system.now) (g.S.FileSystem.content c.pieces.system) files (words_of c.args.self.now) (words_of c.pieces.self) words tables
-    c.args.fen.now (string_bytes c.in_ok-object_of-in-Found.field-0) c.parse_fen.result c.in-Ok.record c.in-Ok-answer.answer moves
-    c.parse_fen.ensures.accepted c.parse_fen.ensures.refused c.in-Ok.is c.pieces.invariant.content c.pieces.invariant.words c.in-Ok-answer.ensures.content c.answer.ensures.words
-    c.in-Ok-answer.ensures.answer c.in-Ok-answer.ensures.distances after c.in_ok-object_of-in-Found.ensures)
+    c.args.fen.now (string_bytes c.in_ok-object_of-in-Found.field-0) c.parse_fen.result c.in-Ok.record c.in_ok-answer.answer moves
+    c.parse_fen.ensures.accepted c.parse_fen.ensures.refused c.in-Ok.is c.pieces.invariant.content c.pieces.invariant.words c.in_ok-answer.ensures.content c.answer.ensures.words
+    c.in_ok-answer.ensures.answer c.in_ok-answer.ensures.distances after c.in_ok-object_of-in-Found.ensures)
 
 pub moves_after-requires : goal.moves_after-requires
 moves_after-requires g c =
     let Legal = λ (r : RankedMove). Contains (legal_moves c.in-Ok.record.position) r.m in
-    subst (All Legal) (sym c.as_slice.ensures.value) c.in-Ok-answer.ensures.answer.legal
+    subst (All Legal) (sym c.as_slice.ensures.value) c.in_ok-answer.ensures.answer.legal
 
-pub returns-in-Err-answer-clause-fetched : goal.returns-in-Err-answer-clause-fetched
-returns-in-Err-answer-clause-fetched g c = λ all.
+pub returns-in_err-answer-clause-fetched : goal.returns-in_err-answer-clause-fetched
+returns-in_err-answer-clause-fetched g c = λ all.
     moved (g.S.FileSystem.content c.args.system.now) (g.S.FileSystem.content c.pieces.system) (words_of c.pieces.self) (words_of c.answer.new.self) c.pieces.self.tables.items c.answer.new.self.tables.items c.pieces.invariant.content c.answer.ensures.fetched
     (c.pieces.invariant.fetched (c.forget.ensures.fetched (g.S.FileSystem.content c.args.system.now) all))
 

@@ -5,15 +5,15 @@ use Rattle.szg_results.specs.Lines.{answer_text}
 use Rattle.szg_results.proofs.After.{answer_is}
 use Rattle.szg_results.proofs.folders.Folders.text.Goals as goal
 
-pub returns-in-Ok-text_of-clause-text : goal.returns-in-Ok-text_of-clause-text
-returns-in-Ok-text_of-clause-text g c =
-    let a = c.in-Ok-answer.answer in
+pub returns-clause-text : goal.returns-clause-text
+returns-clause-text g c =
+    let a = c.in_ok-answer.answer in
     let h = answer_is (g.S.FileSystem.content c.args.system.now) (words_of c.args.self.now) (words_of c.forget.new.self) c.answer.new.self.tables.items c.args.fen.now c.parse_fen.result c.in-Ok.record a
-    c.parse_fen.ensures.accepted c.parse_fen.ensures.refused c.in-Ok.is c.forget.ensures.words c.in-Ok-answer.ensures.answer c.in-Ok-answer.ensures.distances in
-    (h.0, a, h.2, c.in-Ok-text_of.ensures ∙ ap (λ (q : FenRecord). answer_text q.position a) h.1)
+    c.parse_fen.ensures.accepted c.parse_fen.ensures.refused c.in-Ok.is c.forget.ensures.words c.in_ok-answer.ensures.answer c.in_ok-answer.ensures.distances in
+    (h.0, a, h.2, c.in_ok-text_of.ensures ∙ ap (λ (q : FenRecord). answer_text q.position a) h.1)
 
-pub returns-in-Ok-text_of-clause-fetched : goal.returns-in-Ok-text_of-clause-fetched
-returns-in-Ok-text_of-clause-fetched g c = λ all. c.answer.ensures.fetched (c.forget.ensures.fetched (g.S.FileSystem.content c.args.system.now) all)
+pub returns-clause-fetched : goal.returns-clause-fetched
+returns-clause-fetched g c = λ all. c.answer.ensures.fetched (c.forget.ensures.fetched (g.S.FileSystem.content c.args.system.now) all)
 
-pub returns-in-Err-text_of-clause-fetched : goal.returns-in-Err-text_of-clause-fetched
-returns-in-Err-text_of-clause-fetched g c = λ all. c.answer.ensures.fetched (c.forget.ensures.fetched (g.S.FileSystem.content c.args.system.now) all)
+pub returns-in_err-text_of-clause-fetched : goal.returns-in_err-text_of-clause-fetched
+returns-in_err-text_of-clause-fetched g c = λ all. c.answer.ensures.fetched (c.forget.ensures.fetched (g.S.FileSystem.content c.args.system.now) all)

@@ -6,5 +6,5 @@ use Rattle.szg_subtable.proofs.pairing.accepting.accept.Given as goal
 abbrev pub invariant-loop-symbol : goal.invariant-loop-symbol
 invariant-loop-symbol l = record {
   count : length l.lens.items ≡ l.symbol;
-  each : (s : ℕ) → s < l.symbol → get_or l.lens.items s 0 ≡ length (expansion_of l.entries.items s);
+  each : (s : ℕ) → s < l.symbol → get_or l.lens.items s 0 ≡ length (expansion_of l.proposal.entries.items s);
 }

@@ -1,12 +1,17 @@
-use Rattle.std.proofs.Common.{◌≡◌, length, ◌∙◌, ap, refl, subst, arith}
-use Rattle.std.specs.Prelude.{◌≢◌, ◌↔◌, ℕ, Result, Err}
+use Rattle.std.proofs.Common.{◌≡◌, ◌^◌, length, ◌∙◌, ap, refl, sym, subst, arith}
+use Rattle.std.specs.Prelude.{◌≢◌, ◌↔◌, ℕ, Result, Ok, Err}
 use Rattle.szg_values.specs.declared.Kind.{Kind}
+use Rattle.szg_block.specs.Kept.{IsLocatable}
+use Rattle.szg_block.specs.Steps.{block_location}
+use Rattle.szg_block.specs.Subtable.{layout_of}
+use Rattle.szg_file.specs.Contents.{Slot}
+use Rattle.szg_file.specs.Fetching.{IsSpot}
 use Rattle.szg_file.specs.Located.{Location, IsLocated}
 use Rattle.szg_file.specs.Lookup.{byte_of}
 use Rattle.szg_file.specs.Values.{constant_value}
 use Rattle.szg_file.specs.declared.opened.fetching.FetchFault.{FetchFault}
-use Rattle.szg_file.specs.declared.opened.fetching.FetchFault.TheVariants.{Source}
-use Rattle.szg_file.proofs.Openings.FrontFinds.{spot_inside, spot_none, spot_some, block_long, constant_decoded, value_decoded, bad_named, wanted_brought, unwanted, wanted_long, no_source, constant_spelled, block_spelled, ok_both, err_both}
+use Rattle.szg_file.specs.declared.opened.fetching.FetchFault.TheVariants.{Block, Source}
+use Rattle.szg_file.proofs.Openings.FrontFinds.{spot_inside, spot_none, spot_some, block_long, constant_decoded, value_decoded, bad_named, wanted_brought, unwanted, wanted_long, constant_spelled, block_spelled, some_and, spot_short, if_some_second}
 use Rattle.szg_file.proofs.Openings.KeptFronts.{whole_bad, whole_decoded, whole_spelled, whole_wanted}
 use Rattle.szg_file.proofs.opened.fetching.Located.decode.Goals as goal
 
@@ -55,48 +60,77 @@ returns-then-block-spot-clause-length c = λ content h.
     (wanted_long content s.found.placed.now.sub s.found.placed.now.first c.args.self.now.index c.in-Some.spot _ (λ n. (◌≡◌ {A = Result ℕ FetchFault} (Err Source) (Err Source)) ↔ (length c.args.block.now ≢ n)) (spot_some s.spot c.in-Some.spot _ _ c.in-Some.is own.spot_is) (omega (arith, own.inside, h.long))
     (λ e. c.if-block-spot.true, λ other. refl))
 
-pub returns-clause-value : goal.returns-clause-value
-returns-clause-value c =
+pub checked_value-requires : goal.checked_value-requires
+checked_value-requires c =
     let s = c.self.inside in
     let own = subst (λ (l : Location). IsLocated l s.found.slot s.found.placed.now s.spot) c.self.view_is c.self.invariant in
-    let at = spot_some s.spot c.in-Some.spot _ _ c.in-Some.is own.spot_is in
     let view : s.index ≡ c.args.self.now.index = ap (λ (l : Location). l.index) c.self.view_is in
-    ok_both c.value_at.result _ _ _ c.value_at.ensures.verified c.value_at.ensures.value (λ value verified stated content h.
-    let in_file = own.front content h in
-    rw in_file.is
-    (λ brought. whole_decoded s.found.slot in_file.whole c.args.self.now.index own.below h.all _ in_file.kept_is c.args.self.now.kept.index.kind value
-    (value_decoded c.args.self.now.kept.index.kind s.found.slot content s.found.placed.now.sub s.found.placed.now.first c.args.self.now.index value c.in-Some.spot c.args.block.now
-    at (wanted_brought content s.found.placed.now.sub s.found.placed.now.first c.args.self.now.index c.in-Some.spot c.args.block.now at (rw (whole_wanted s.found.slot in_file.whole c.args.self.now.index own.below h.all _ in_file.kept_is) brought)) (rw (← view) verified) (rw (← view) stated))))
+    let sized : c.slot.inside.size ≡ s.found.slot.size = ap (λ (slot : Slot). slot.size) c.slot.view_is in
+    let there = subst (λ (i : ℕ). IsSpot s.found.placed.now i c.in-Some.spot) (sym view) (spot_some s.spot c.in-Some.spot _ _ c.in-Some.is own.spot_is) in
+    record {
+      head = own.head;
+      index = subst (λ (n : ℕ). IsLocatable s.found.placed.now.sub n) (sym sized) own.index;
+      below = omega (arith, own.below, sized, view);
+      at_block = some_and (layout_of s.found.placed.now.sub) _ (λ layout. c.in-Some.spot.value.block ≡ (block_location layout s.index).list) (λ layout h. h.block) there;
+      at_item = some_and (layout_of s.found.placed.now.sub) _ (λ layout. c.in-Some.spot.value.item ≡ (block_location layout s.index).item) (λ layout h. h.item) there;
+      short = spot_short s.found.placed.now s.index c.in-Some.spot there;
+      whole = some_and (layout_of s.found.placed.now.sub) _ (λ layout. length c.args.block.now ≡ 2 ^ layout.block_bits) (λ layout h. c.if-block-spot.false ∙ h.count) there;
+    }
 
-pub returns-clause-fault : goal.returns-clause-fault
-returns-clause-fault c =
+pub returns-in-Ok-clause-value : goal.returns-in-Ok-clause-value
+returns-in-Ok-clause-value c = λ content h.
     let s = c.self.inside in
     let own = subst (λ (l : Location). IsLocated l s.found.slot s.found.placed.now s.spot) c.self.view_is c.self.invariant in
-    let at = spot_some s.spot c.in-Some.spot _ _ c.in-Some.is own.spot_is in
     let view : s.index ≡ c.args.self.now.index = ap (λ (l : Location). l.index) c.self.view_is in
-    err_both c.value_at.result _ _ _ c.value_at.ensures.fault c.value_at.ensures.bad (λ fault is bad content h.
+    let sized : c.slot.inside.size ≡ s.found.slot.size = ap (λ (slot : Slot). slot.size) c.slot.view_is in
+    let at = spot_some s.spot c.in-Some.spot _ _ c.in-Some.is own.spot_is in
     let in_file = own.front content h in
     rw in_file.is
-    (λ brought. whole_bad s.found.slot in_file.whole c.args.self.now.index own.below h.all _ in_file.kept_is content fault
-    (bad_named s.found.slot content s.found.placed.now.sub s.found.placed.now.first c.args.self.now.index c.in-Some.spot c.args.block.now fault
-    at (wanted_brought content s.found.placed.now.sub s.found.placed.now.first c.args.self.now.index c.in-Some.spot c.args.block.now at (rw (whole_wanted s.found.slot in_file.whole c.args.self.now.index own.below h.all _ in_file.kept_is) brought)) is (rw (← view) bad))))
+    (λ brought. whole_decoded s.found.slot in_file.whole c.args.self.now.index own.below h.all _ in_file.kept_is c.args.self.now.kept.index.kind c.in-Ok.value
+    (value_decoded c.args.self.now.kept.index.kind s.found.slot content s.found.placed.now.sub s.found.placed.now.first c.args.self.now.index c.in-Ok.value c.in-Some.spot c.args.block.now
+    at (wanted_brought content s.found.placed.now.sub s.found.placed.now.first c.args.self.now.index c.in-Some.spot c.args.block.now at (rw (whole_wanted s.found.slot in_file.whole c.args.self.now.index own.below h.all _ in_file.kept_is) brought))
+    (rw (← view, ← sized) c.in-Ok.ensures.verified) (rw (← view) c.in-Ok.ensures.value)))
 
-pub returns-clause-length : goal.returns-clause-length
-returns-clause-length c = λ content h.
+pub returns-in-Ok-clause-length : goal.returns-in-Ok-clause-length
+returns-in-Ok-clause-length c = λ content h.
     let s = c.self.inside in
     let own = subst (λ (l : Location). IsLocated l s.found.slot s.found.placed.now s.spot) c.self.view_is c.self.invariant in
     let in_file = own.front content h in
     rw (in_file.is, ← whole_wanted s.found.slot in_file.whole c.args.self.now.index own.below h.all _ in_file.kept_is)
-    (wanted_long content s.found.placed.now.sub s.found.placed.now.first c.args.self.now.index c.in-Some.spot _ (λ n. (c.value_at.result ≡ Err Source) ↔ (length c.args.block.now ≢ n)) (spot_some s.spot c.in-Some.spot _ _ c.in-Some.is own.spot_is) (omega (arith, own.inside, h.long))
-    (λ e. absurd (no_source c.value_at.result _ _ c.value_at.ensures.fault e), λ other. absurd (other c.if-block-spot.false)))
+    (wanted_long content s.found.placed.now.sub s.found.placed.now.first c.args.self.now.index c.in-Some.spot _ (λ n. (◌≡◌ {A = Result ℕ FetchFault} (Ok c.in-Ok.value) (Err Source)) ↔ (length c.args.block.now ≢ n)) (spot_some s.spot c.in-Some.spot _ _ c.in-Some.is own.spot_is) (omega (arith, own.inside, h.long))
+    (λ e. absurd (cc e), λ other. absurd (other c.if-block-spot.false)))
 
-pub returns-clause-spelled : goal.returns-clause-spelled
-returns-clause-spelled c =
+pub returns-in-Ok-clause-spelled : goal.returns-in-Ok-clause-spelled
+returns-in-Ok-clause-spelled c = λ content h.
     let s = c.self.inside in
     let own = subst (λ (l : Location). IsLocated l s.found.slot s.found.placed.now s.spot) c.self.view_is c.self.invariant in
     let view : s.index ≡ c.args.self.now.index = ap (λ (l : Location). l.index) c.self.view_is in
-    ok_both c.value_at.result _ _ _ c.value_at.ensures.value c.value_at.ensures.value (λ value stated again content h.
     let in_file = own.front content h in
     rw in_file.is
     (whole_spelled s.found.slot in_file.whole c.args.self.now.index own.below h.all _ in_file.kept_is c.args.block.now _
-    (block_spelled content s.found.placed.now.sub s.found.placed.now.first c.args.self.now.index value c.in-Some.spot c.args.block.now (spot_some s.spot c.in-Some.spot _ _ c.in-Some.is own.spot_is) c.if-block-spot.false (rw (← view) stated))))
+    (block_spelled content s.found.placed.now.sub s.found.placed.now.first c.args.self.now.index c.in-Ok.value c.in-Some.spot c.args.block.now (spot_some s.spot c.in-Some.spot _ _ c.in-Some.is own.spot_is) c.if-block-spot.false (rw (← view) c.in-Ok.ensures.value)))
+
+pub returns-in-Err-clause-fault : goal.returns-in-Err-clause-fault
+returns-in-Err-clause-fault c = λ content h.
+    let s = c.self.inside in
+    let own = subst (λ (l : Location). IsLocated l s.found.slot s.found.placed.now s.spot) c.self.view_is c.self.invariant in
+    let view : s.index ≡ c.args.self.now.index = ap (λ (l : Location). l.index) c.self.view_is in
+    let sized : c.slot.inside.size ≡ s.found.slot.size = ap (λ (slot : Slot). slot.size) c.slot.view_is in
+    let at = spot_some s.spot c.in-Some.spot _ _ c.in-Some.is own.spot_is in
+    let in_file = own.front content h in
+    let fault : FetchFault = Block c.in-Some.spot.value.block c.in-Some.spot.offset in
+    let bad = if_some_second (layout_of s.found.placed.now.sub) _ _ c.in-Err.ensures.fault in
+    rw in_file.is
+    (λ brought. whole_bad s.found.slot in_file.whole c.args.self.now.index own.below h.all _ in_file.kept_is content fault
+    (bad_named s.found.slot content s.found.placed.now.sub s.found.placed.now.first c.args.self.now.index c.in-Some.spot c.args.block.now fault
+    at (wanted_brought content s.found.placed.now.sub s.found.placed.now.first c.args.self.now.index c.in-Some.spot c.args.block.now at (rw (whole_wanted s.found.slot in_file.whole c.args.self.now.index own.below h.all _ in_file.kept_is) brought)) refl (rw (← view, ← sized) bad)))
+
+pub returns-in-Err-clause-length : goal.returns-in-Err-clause-length
+returns-in-Err-clause-length c = λ content h.
+    let s = c.self.inside in
+    let own = subst (λ (l : Location). IsLocated l s.found.slot s.found.placed.now s.spot) c.self.view_is c.self.invariant in
+    let in_file = own.front content h in
+    let fault : FetchFault = Block c.in-Some.spot.value.block c.in-Some.spot.offset in
+    rw (in_file.is, ← whole_wanted s.found.slot in_file.whole c.args.self.now.index own.below h.all _ in_file.kept_is)
+    (wanted_long content s.found.placed.now.sub s.found.placed.now.first c.args.self.now.index c.in-Some.spot _ (λ n. (◌≡◌ {A = Result ℕ FetchFault} (Err fault) (Err Source)) ↔ (length c.args.block.now ≢ n)) (spot_some s.spot c.in-Some.spot _ _ c.in-Some.is own.spot_is) (omega (arith, own.inside, h.long))
+    (λ e. let same : fault ≡ Source = cc e in absurd (cc same), λ other. absurd (other c.if-block-spot.false)))

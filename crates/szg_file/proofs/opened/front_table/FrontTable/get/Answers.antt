@@ -1,3 +1,4 @@
+use Rattle.std.proofs.Common.{◌≡◌, ℕ, ◌∙◌, take, drop, ap, arith}
 use Rattle.szg_block.specs.BlocksTrait.{bytes_at}
 use Rattle.szg_file.specs.Unread.{front_at}
 use Rattle.szg_file.specs.Wanted.{wanted_block}
@@ -24,7 +25,9 @@ pub returns-clause-value : goal.returns-clause-value
 returns-clause-value c = λ h.
     let bytes = c.args.bytes.now in let at = c.locate-located.result in let e = c.locate-located.ensures in let r = c.decode-2.result in
     let o = front_at c.args.self.now.index.material c.args.self.now.index.kind bytes c.args.part c.args.side in
-    let some = some_wanted o (λ found. wanted_block found.1 c.args.i) c.range.result c.in-Some.range (λ (w : ByteRange). bytes_at bytes w.offset w.count) c.in-Some-bytes_from.block.now c.in-Some.is c.in-Some-bytes_from.ensures.there
+    let there : c.in-Some-get.block.now ≡ bytes_at bytes c.in-Some.range.offset c.in-Some.range.count =
+    c.in-Some-get.ensures.lookup.0.2 ∙ ap (λ (n : ℕ). take n (drop c.in-Some.range.offset bytes)) (omega arith) in
+    let some = some_wanted o (λ found. wanted_block found.1 c.args.i) c.range.result c.in-Some.range (λ (w : ByteRange). bytes_at bytes w.offset w.count) c.in-Some-get.block.now c.in-Some.is there
     (wanted_of at _ e c.range.result c.range.ensures.wanted bytes h) in
     ok_both r _ _ _ c.decode-2.ensures.value c.decode-2.ensures.value (λ value decoded again. given_wanted o _ _ some (value_of at _ e _ value decoded bytes h))
 
@@ -32,6 +35,8 @@ pub returns-clause-fault : goal.returns-clause-fault
 returns-clause-fault c = λ h.
     let bytes = c.args.bytes.now in let at = c.locate-located.result in let e = c.locate-located.ensures in let r = c.decode-2.result in
     let o = front_at c.args.self.now.index.material c.args.self.now.index.kind bytes c.args.part c.args.side in
-    let some = some_wanted o (λ found. wanted_block found.1 c.args.i) c.range.result c.in-Some.range (λ (w : ByteRange). bytes_at bytes w.offset w.count) c.in-Some-bytes_from.block.now c.in-Some.is c.in-Some-bytes_from.ensures.there
+    let there : c.in-Some-get.block.now ≡ bytes_at bytes c.in-Some.range.offset c.in-Some.range.count =
+    c.in-Some-get.ensures.lookup.0.2 ∙ ap (λ (n : ℕ). take n (drop c.in-Some.range.offset bytes)) (omega arith) in
+    let some = some_wanted o (λ found. wanted_block found.1 c.args.i) c.range.result c.in-Some.range (λ (w : ByteRange). bytes_at bytes w.offset w.count) c.in-Some-get.block.now c.in-Some.is there
     (wanted_of at _ e c.range.result c.range.ensures.wanted bytes h) in
     err_both r _ _ _ c.decode-2.ensures.fault c.decode-2.ensures.fault (λ fault named again. given_wanted o _ _ some (fault_of at _ e _ fault named bytes h))
