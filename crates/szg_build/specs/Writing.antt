@@ -4,19 +4,19 @@ use Rattle.szg_io.specs.Device.{HasFailed}
 use Rattle.szg_io.specs.Moved.{Gives}
 use Rattle.szg_io.specs.declared.device.Output.{Ghosts}
 use Rattle.szg_file.specs.declared.fault.WriteFault.{WriteFault}
-use Rattle.szg_build.specs.declared.writing.outgoing.Outgoing.{Outgoing}
+use Rattle.szg_build.specs.declared.writing.dump_text.DumpText.{DumpText}
 
 -- a number as it is returned: it saturates at the greatest 64-bit value
 abbrev pub stated : ℕ → ℕ
 stated number = min number (2 ^ 64 - 1)
 
 -- These bytes were written. Followed by the bytes buffered now, they are the bytes buffered before and then the text.
-pub record Writes (text : List ℕ) (old new : Outgoing) (bytes : List ℕ) : Type 0 where
+pub record Writes (text : List ℕ) (old new : DumpText) (bytes : List ℕ) : Type 0 where
   pub counts : (count : ℕ) → old.out ≡ stated count → new.out ≡ stated (count + length bytes)
   pub whole : bytes ++ new.held.items ≡ old.held.items ++ text
 
 -- These bytes were written. They are a proper prefix of the bytes buffered before, followed by the text.
-pub record Stops (text : List ℕ) (old : Outgoing) (out : ℕ) (bytes : List ℕ) : Type 0 where
+pub record Stops (text : List ℕ) (old : DumpText) (out : ℕ) (bytes : List ℕ) : Type 0 where
   pub counts : (count : ℕ) → old.out ≡ stated count → out ≡ stated (count + length bytes)
   pub rest : List ℕ
   pub some : 0 < length rest
@@ -28,12 +28,12 @@ retry_rounds (Ok x) = 0
 retry_rounds (Err fault) = 1
 
 -- What the result means for the bytes that were written.
-abbrev pub Answer : {X : Type 0} → List ℕ → Outgoing → Outgoing → ℕ → ℕ → ℕ → List ℕ → Result X WriteFault → Type 0
+abbrev pub Answer : {X : Type 0} → List ℕ → DumpText → DumpText → ℕ → ℕ → ℕ → List ℕ → Result X WriteFault → Type 0
 Answer text old new failures failures' row bytes (Ok x) = Writes text old new bytes × (failures' ≡ failures)
 Answer text old new failures failures' row bytes (Err fault) = Stops text old fault.out bytes × HasFailed failures failures' row
 
 -- Some bytes were written, within the bound on calls, and the result means what Answer says of them.
-pub record Writing {X W : Type 0} (text : List ℕ) (old new : Outgoing)
+pub record Writing {X W : Type 0} (text : List ℕ) (old new : DumpText)
     (dev : Ghosts W) (output output' : W) (result : Result X WriteFault) : Type 0 where
   pub bytes : List ℕ
   pub given : Gives dev output output' bytes (retry_rounds result)

@@ -2,8 +2,8 @@
 
 pub(crate) mod block_values;
 mod dump_sink;
+mod dump_text;
 pub(crate) mod dumping;
-mod outgoing;
 pub(crate) mod stored;
 mod streaming;
 pub(crate) mod table_dump;
@@ -23,7 +23,7 @@ ghost use Rattle.szg_build.specs.Shown.{dump_seen, form_of, sub_in, sub_count, s
 use crate::dump::Dump;
 use crate::item::Item;
 use crate::places::places;
-use crate::writing::outgoing::{Outgoing, Written, flush, put};
+use crate::writing::dump_text::{DumpText, Written, flush, put};
 use arrayvec::ArrayVec;
 use itoa::Buffer;
 use szg_file::{Map, PartBytes, WriteFault, part_count};
@@ -61,7 +61,7 @@ pub(crate) fn put_number<W: Output>(
     front: &[u8],
     number: u64,
     output: &mut W,
-    text: &mut Outgoing,
+    text: &mut DumpText,
 ) -> Written
     requires { length front.now ≤ 16 }
     ensures { Writing ((front.now ++ decimal number) ++ 10 ∷ []) text.old text.new W.Output output.old output.new result }
@@ -79,7 +79,7 @@ fn put_pair<W: Output>(
     first: u64,
     second: u64,
     output: &mut W,
-    text: &mut Outgoing,
+    text: &mut DumpText,
 ) -> Written
     requires { length front.now ≤ 16 }
     ensures { Writing ((front.now ++ (decimal first ++ 32 ∷ decimal second)) ++ 10 ∷ []) text.old text.new W.Output output.old output.new result }
@@ -94,7 +94,7 @@ fn put_pair<W: Output>(
 }
 
 /// Writes a line: a fixed word with the space after it, and a word.
-fn put_word<W: Output>(front: &[u8], word: &[u8], output: &mut W, text: &mut Outgoing) -> Written
+fn put_word<W: Output>(front: &[u8], word: &[u8], output: &mut W, text: &mut DumpText) -> Written
     requires front { length front.now ≤ 16 }
     requires word { length word.now ≤ 32 }
     ensures { Writing ((front.now ++ word.now) ++ 10 ∷ []) text.old text.new W.Output output.old output.new result }
@@ -107,7 +107,7 @@ fn put_word<W: Output>(front: &[u8], word: &[u8], output: &mut W, text: &mut Out
 }
 
 /// Writes bytes as lower-case hexadecimal text.
-fn put_hex<W: Output>(bytes: &[u8], output: &mut W, text: &mut Outgoing) -> Written
+fn put_hex<W: Output>(bytes: &[u8], output: &mut W, text: &mut DumpText) -> Written
     ensures { Writing (encode_lower bytes.now) text.old text.new W.Output output.old output.new result }
 {
     'bytes: for byte in bytes {
@@ -144,7 +144,7 @@ pub(crate) fn put_equal<W: Output>(
     count: u64,
     value: u16,
     output: &mut W,
-    text: &mut Outgoing,
+    text: &mut DumpText,
 ) -> Written
     ensures { Writing (lines_text (value_lines (form_of form) (replicate count value))) text.old text.new W.Output output.old output.new result }
 {
@@ -161,7 +161,7 @@ pub(crate) fn put_equal<W: Output>(
 }
 
 /// Writes the number of values, and the values in form `form`.
-fn put_list<W: Output>(form: u8, values: &[u16], output: &mut W, text: &mut Outgoing) -> Written
+fn put_list<W: Output>(form: u8, values: &[u16], output: &mut W, text: &mut DumpText) -> Written
     ensures { Writing (lines_text (values_lines (form_of form) values.now)) text.old text.new W.Output output.old output.new result }
 {
     put_number(b"values ", values.len() as u64, output, text)?;
@@ -181,7 +181,7 @@ fn put_map_list<T: Item, W: Output>(
     j: usize,
     list: &[T],
     output: &mut W,
-    text: &mut Outgoing,
+    text: &mut DumpText,
 ) -> Written
     ensures { Writing (lines_text (map_list_lines j (map T.number list.now))) text.old text.new W.Output output.old output.new result }
 {
@@ -196,7 +196,7 @@ fn put_map_list<T: Item, W: Output>(
 fn put_map_lists<T: Item, W: Output>(
     lists: &[Vec<T>; 4],
     output: &mut W,
-    text: &mut Outgoing,
+    text: &mut DumpText,
 ) -> Written
     ensures { Writing (lines_text (flat_map_beside map_list_lines (0 ∷ 1 ∷ 2 ∷ 3 ∷ []) (map (λ list. map T.number list.items) lists.now))) text.old text.new W.Output output.old output.new result }
 {
@@ -212,7 +212,7 @@ fn put_map_lists<T: Item, W: Output>(
 pub(crate) fn put_subtable_id<W: Output>(
     place: (u8, u8),
     output: &mut W,
-    text: &mut Outgoing,
+    text: &mut DumpText,
 ) -> Written
     requires { place.0 < 4 }
     ensures { Writing (line_text (codes "sub" ∷ part_word place.0 ∷ decimal place.1 ∷ [])) text.old text.new W.Output output.old output.new result }
@@ -226,7 +226,7 @@ pub(crate) fn put_flags_and_map<W: Output>(
     flags: u8,
     map: &Option<Map>,
     output: &mut W,
-    text: &mut Outgoing,
+    text: &mut DumpText,
 ) -> Written
     ensures { Writing (line_text (codes "flags" ∷ decimal flags ∷ []) ++ lines_text (map_lines (option_map map_of map.now))) text.old text.new W.Output output.old output.new result }
 {
@@ -239,7 +239,7 @@ pub(crate) fn put_flags_and_map<W: Output>(
 }
 
 /// Writes the flags and the map of subtable `s` of a DTZ dump. For a WDL dump it writes nothing.
-fn put_flags<W: Output>(dump: &Dump, s: usize, output: &mut W, text: &mut Outgoing) -> Written
+fn put_flags<W: Output>(dump: &Dump, s: usize, output: &mut W, text: &mut DumpText) -> Written
     requires { s < sub_count dump.now }
     ensures { Writing (lines_text (flags_lines dump.now.kind (sub_in dump.now s))) text.old text.new W.Output output.old output.new result }
 {
@@ -256,7 +256,7 @@ fn put_sub<W: Output>(
     s: usize,
     place: (u8, u8),
     output: &mut W,
-    text: &mut Outgoing,
+    text: &mut DumpText,
 ) -> Written
     requires there { s < sub_count dump.now }
     requires place { place.0 < 4 }
@@ -278,7 +278,7 @@ fn count_subs(dump: &Dump) -> usize
 }
 
 /// Writes the subtables.
-fn put_subs<W: Output>(form: u8, dump: &Dump, output: &mut W, text: &mut Outgoing) -> Written
+fn put_subs<W: Output>(form: u8, dump: &Dump, output: &mut W, text: &mut DumpText) -> Written
     ensures { Writing (lines_text (flat_map_beside (sub_lines (form_of form) dump.now.kind) (subtable_ids_of dump.now.material dump.now.kind) (subs_seen dump.now))) text.old text.new W.Output output.old output.new result }
 {
     let places = places(&dump.material, dump.kind);
@@ -291,7 +291,7 @@ fn put_subs<W: Output>(form: u8, dump: &Dump, output: &mut W, text: &mut Outgoin
 // ---- the lines before the subtables
 
 /// Writes a part's line.
-fn put_part<W: Output>(number: u8, part: &PartBytes, output: &mut W, text: &mut Outgoing) -> Written
+fn put_part<W: Output>(number: u8, part: &PartBytes, output: &mut W, text: &mut DumpText) -> Written
     requires { number < 4 }
     ensures { Writing (lines_text (part_lines number (part_of part.now))) text.old text.new W.Output output.old output.new result }
 {
@@ -309,7 +309,7 @@ pub(crate) fn put_parts<W: Output>(
     material: &Material,
     parts: &[PartBytes],
     output: &mut W,
-    text: &mut Outgoing,
+    text: &mut DumpText,
 ) -> Written
     ensures { Writing (lines_text (flat_map_beside part_lines (part_numbers material.now) (map part_of parts.now))) text.old text.new W.Output output.old output.new result }
 {
@@ -326,7 +326,7 @@ pub(crate) fn put_front<W: Output>(
     kind: Kind,
     last: &[u8; 16],
     output: &mut W,
-    text: &mut Outgoing,
+    text: &mut DumpText,
 ) -> Written
     requires { (form ≡ 1) ⊎ (form ≡ 2) }
     ensures { Writing (lines_text (front_lines (form_of form) material.now kind last.now)) text.old text.new W.Output output.old output.new result }
@@ -354,7 +354,7 @@ fn kind_bytes(kind: Kind) -> &'static [u8]
 // ---- the whole text
 
 /// Writes a dump, and then the bytes that are still buffered.
-fn put_dump<W: Output>(form: u8, dump: &Dump, output: &mut W, text: &mut Outgoing) -> Written
+fn put_dump<W: Output>(form: u8, dump: &Dump, output: &mut W, text: &mut DumpText) -> Written
     requires { (form ≡ 1) ⊎ (form ≡ 2) }
     ensures text { Writing (dump_text (form_of form) (dump_seen dump.now)) text.old text.new W.Output output.old output.new result }
     ensures held { OnOk result (text.new.held.items ≡ []) }
@@ -377,6 +377,6 @@ pub fn write_dump<W: Output>(dump: &Dump, form: u8, output: &mut W) -> Result<()
     ensures failed { OnErr result (HasFailed (W.failures output.old) (W.failures output.new) (W.interrupted output.new)) }
     ensures quiet { OnOk result (W.failures output.new ≡ W.failures output.old) }
 {
-    let mut text = Outgoing::new();
+    let mut text = DumpText::new();
     put_dump(form, dump, output, &mut text)
 }

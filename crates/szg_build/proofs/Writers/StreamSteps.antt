@@ -3,7 +3,7 @@ use Rattle.std.proofs.Common.{◌≡◌, ℕ, List, [], ◌∷◌, ◌++◌, rep
 use Rattle.std.specs.List.{FoldsTo}
 use Rattle.std.specs.Prelude.{Result, OnOk}
 use Rattle.szg_file.specs.declared.fault.WriteFault.{WriteFault}
-use Rattle.szg_build.specs.declared.writing.outgoing.Outgoing.{Outgoing}
+use Rattle.szg_build.specs.declared.writing.dump_text.DumpText.{DumpText}
 use Rattle.szg_io.specs.Moved.{Gives}
 use Rattle.szg_io.specs.declared.device.Output as output
 use Rattle.szg_io.proofs.DeviceLaws.{Gives-none, Gives-on}
@@ -76,15 +76,15 @@ pub accepted_goes : {W : Type 0} (writing : output.Ghosts W) (values : List ℕ)
 accepted_goes writing values s out s' out' h = subst (λ (z : List ℕ). Goes writing z s out s' out') (sym h.joined) (fold_goes writing h.chunks (s, out) (s', out') h.steps)
 
 -- what a call wrote that returned
-pub ok_written : {W : Type 0} (text : List ℕ) {o n : Outgoing} {dev : output.Ghosts W} {i k : W} (r : Result (Unit {0}) WriteFault) → Writing text o n dev i k r → OnOk r (Writing {X = Unit {0}} text o n dev i k (Ok tt))
+pub ok_written : {W : Type 0} (text : List ℕ) {o n : DumpText} {dev : output.Ghosts W} {i k : W} (r : Result (Unit {0}) WriteFault) → Writing text o n dev i k r → OnOk r (Writing {X = Unit {0}} text o n dev i k (Ok tt))
 ok_written text (Ok x) h = record { bytes = h.bytes; given = h.given; answer = h.answer }
 ok_written text (Err fault) h = tt
 
-pub ok_as : {W : Type 0} (s t : List ℕ) {o n : Outgoing} {dev : output.Ghosts W} {i k : W} (r : Result (Unit {0}) WriteFault) → s ≡ t → Writing s o n dev i k r → OnOk r (Writing {X = Unit {0}} t o n dev i k (Ok tt))
+pub ok_as : {W : Type 0} (s t : List ℕ) {o n : DumpText} {dev : output.Ghosts W} {i k : W} (r : Result (Unit {0}) WriteFault) → s ≡ t → Writing s o n dev i k r → OnOk r (Writing {X = Unit {0}} t o n dev i k (Ok tt))
 ok_as s t {o} {n} {dev} {i} {k} r e h = ok_written t r (subst (λ (z : List ℕ). Writing z o n dev i k r) e h)
 
 -- after these bytes, what was buffered and a text are written whole
-pub end_given : {W : Type 0} (before whole text : List ℕ) {o n : Outgoing} {dev : output.Ghosts W} {h i k : W} (r : Result (Unit {0}) WriteFault) →
+pub end_given : {W : Type 0} (before whole text : List ℕ) {o n : DumpText} {dev : output.Ghosts W} {h i k : W} (r : Result (Unit {0}) WriteFault) →
     Gives dev h i before 0 → whole ≡ before ++ (o.held.items ++ text) → OnOk r (n.held.items ≡ []) → Writing text o n dev i k r → OnOk r (Gives dev h k whole 0)
 end_given before whole text {o} {n} {dev} {h} {i} {k} (Ok x) first e held last =
     let all : before ++ last.bytes ≡ whole =

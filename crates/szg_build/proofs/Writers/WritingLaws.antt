@@ -15,7 +15,7 @@ use Rattle.szg_io.specs.Moved.{Gives}
 use Rattle.szg_io.specs.declared.device.Output.{Ghosts}
 use Rattle.szg_io.proofs.DeviceLaws.{Gives-on, Gives-none}
 use Rattle.szg_file.specs.declared.fault.WriteFault.{WriteFault}
-use Rattle.szg_build.specs.declared.writing.outgoing.Outgoing.{Outgoing}
+use Rattle.szg_build.specs.declared.writing.dump_text.DumpText.{DumpText}
 use Rattle.szg_values.specs.Material.{Sides, name_of}
 use Rattle.szg_values.specs.declared.Kind.{Kind}
 use Rattle.szg_values.specs.declared.Kind.TheVariants.{Wdl, Dtz}
@@ -37,13 +37,13 @@ counts_on a b c count x y p q h = let e : c ≡ stated ((count + x) + y) = q (co
 joined : (o m n s t x y : List ℕ) → x ++ m ≡ o ++ s → y ++ n ≡ m ++ t → (x ++ y) ++ n ≡ o ++ (s ++ t)
 joined o m n s t x y p q = append_assoc x y n ∙ ap (λ (z : List ℕ). x ++ z) q ∙ sym (append_assoc x m t) ∙ ap (λ (z : List ℕ). z ++ t) p ∙ append_assoc o s t
 
-Writes-then : (s t : List ℕ) (o m n : Outgoing) (x y : List ℕ) → Writes s o m x → Writes t m n y → Writes (s ++ t) o n (x ++ y)
+Writes-then : (s t : List ℕ) (o m n : DumpText) (x y : List ℕ) → Writes s o m x → Writes t m n y → Writes (s ++ t) o n (x ++ y)
 Writes-then s t o m n x y p q = record {
   counts = λ count h. counts_on o.out m.out n.out count (length x) (length y) (p.counts count) q.counts h ∙ ap (λ (z : ℕ). stated (count + z)) (sym (length-append x y));
   whole = joined o.held.items m.held.items n.held.items s t x y p.whole q.whole;
 }
 
-Writes-stops : (s t : List ℕ) (o m : Outgoing) (out : ℕ) (x y : List ℕ) → Writes s o m x → Stops t m out y → Stops (s ++ t) o out (x ++ y)
+Writes-stops : (s t : List ℕ) (o m : DumpText) (out : ℕ) (x y : List ℕ) → Writes s o m x → Stops t m out y → Stops (s ++ t) o out (x ++ y)
 Writes-stops s t o m out x y p q = record {
   counts = λ count h. counts_on o.out m.out out count (length x) (length y) (p.counts count) q.counts h ∙ ap (λ (z : ℕ). stated (count + z)) (sym (length-append x y));
   rest = q.rest;
@@ -51,7 +51,7 @@ Writes-stops s t o m out x y p q = record {
   begun = joined o.held.items m.held.items q.rest s t x y p.whole q.begun;
 }
 
-Stops-first : (s t : List ℕ) (o : Outgoing) (out : ℕ) (x : List ℕ) → Stops s o out x → Stops (s ++ t) o out x
+Stops-first : (s t : List ℕ) (o : DumpText) (out : ℕ) (x : List ℕ) → Stops s o out x → Stops (s ++ t) o out x
 Stops-first s t o out x p = record {
   counts = p.counts;
   rest = p.rest ++ t;
@@ -59,13 +59,13 @@ Stops-first s t o out x p = record {
   begun = sym (append_assoc x p.rest t) ∙ ap (λ (z : List ℕ). z ++ t) p.begun ∙ append_assoc o.held.items s t;
 }
 
-Answer-then : {Y : Type 0} (s t : List ℕ) (o m n : Outgoing) (fs fs' row : ℕ) (x y : List ℕ) (r : Result Y WriteFault) →
+Answer-then : {Y : Type 0} (s t : List ℕ) (o m n : DumpText) (fs fs' row : ℕ) (x y : List ℕ) (r : Result Y WriteFault) →
     Writes s o m x → Answer t m n fs fs' row y r → Answer (s ++ t) o n fs fs' row (x ++ y) r
 Answer-then s t o m n fs fs' row x y (Ok v) first h = (Writes-then s t o m n x y first h.0, h.1)
 Answer-then s t o m n fs fs' row x y (Err fault) first h = (Writes-stops s t o m fault.out x y first h.0, h.1)
 
 -- A writer after one that wrote its text.
-pub writes_then : {X Y W : Type 0} (s t : List ℕ) {o m n : Outgoing}
+pub writes_then : {X Y W : Type 0} (s t : List ℕ) {o m n : DumpText}
     {dev : Ghosts W} {i j k : W} (v : X) {r : Result Y WriteFault} →
     Writing s o m dev i j (Ok v) →
     Writing t m n dev j k r →
@@ -80,7 +80,7 @@ writes_then s t {o = o} {m = m} {n = n} {dev = dev} {i = i} {j = j} {k = k} v {r
     }
 
 -- A writer's fault is the fault of the whole.
-pub writes_stopped : {X Y W : Type 0} (s t : List ℕ) {o n n' : Outgoing}
+pub writes_stopped : {X Y W : Type 0} (s t : List ℕ) {o n n' : DumpText}
     {dev : Ghosts W} {i k : W} (fault : WriteFault) →
     Writing {X = X} s o n dev i k (Err fault) →
     Writing {X = Y} (s ++ t) o n' dev i k (Err fault)
@@ -91,7 +91,7 @@ writes_stopped s t {o = o} fault h = record {
 }
 
 -- A text that is buffered takes no call.
-pub writes_held : {X W : Type 0} (x : X) (text : List ℕ) (o n : Outgoing)
+pub writes_held : {X W : Type 0} (x : X) (text : List ℕ) (o n : DumpText)
     {dev : Ghosts W} {i : W} →
     n.out ≡ o.out → n.held.items ≡ o.held.items ++ text →
     Writing text o n dev i i (Ok x)
@@ -108,11 +108,11 @@ writes_held x text o n {dev = dev} {i = i} out held = record {
 }
 
 -- An empty text takes no call.
-pub writes_nothing : {X W : Type 0} (x : X) {o : Outgoing} {dev : Ghosts W} {i : W} → Writing [] o o dev i i (Ok x)
+pub writes_nothing : {X W : Type 0} (x : X) {o : DumpText} {dev : Ghosts W} {i : W} → Writing [] o o dev i i (Ok x)
 writes_nothing x {o = o} = writes_held x [] o o refl (sym (append-nil o.held.items))
 
 -- A fault while the buffer is written.
-pub writes_held_stopped : {X W : Type 0} (o n : Outgoing)
+pub writes_held_stopped : {X W : Type 0} (o n : DumpText)
     {dev : Ghosts W} {i k : W} (chunk : List ℕ) (count : ℕ) (fault : WriteFault) → chunk ≡ o.held.items →
     count < length chunk → fault.out ≡ stated (o.out + count) →
     Gives dev i k (take count chunk) 1 →
@@ -133,7 +133,7 @@ writes_held_stopped o n {dev = dev} {i = i} {k = k} chunk count fault held at ou
 }
 
 -- Writing an equal text.
-pub writes_as : {X W : Type 0} {s t : List ℕ} {o n : Outgoing}
+pub writes_as : {X W : Type 0} {s t : List ℕ} {o n : DumpText}
     {dev : Ghosts W} {i k : W} {r : Result X WriteFault} → s ≡ t →
     Writing t o n dev i k r →
     Writing s o n dev i k r
@@ -143,7 +143,7 @@ writes_as {o = o} {n = n} {dev = dev} {i = i} {k = k} {r = r} e h =
 -- ---- loops over items
 
 -- One more item, at its index.
-pub writes_next : {A Y W : Type 0} (f : A → List ℕ) (xs : List A) (at : ℕ) (d : A) {o m n : Outgoing}
+pub writes_next : {A Y W : Type 0} (f : A → List ℕ) (xs : List A) (at : ℕ) (d : A) {o m n : DumpText}
     {dev : Ghosts W} {i j k : W} (y : Y) → at < length xs →
     Writing {X = Unit {0}} (flat_map f (take at xs)) o m dev i j (Ok tt) →
     Writing (f (get_or xs at d)) m n dev j k (Ok y) →
@@ -155,7 +155,7 @@ writes_next f xs at d y h first second =
     (record { bytes = joint.bytes; given = joint.given; answer = joint.answer })
 
 -- The fault of an item, at its index.
-pub writes_next_stopped : {A Y Z W : Type 0} (f : A → List ℕ) (xs : List A) (at : ℕ) (d : A) {o m n n' : Outgoing}
+pub writes_next_stopped : {A Y Z W : Type 0} (f : A → List ℕ) (xs : List A) (at : ℕ) (d : A) {o m n n' : DumpText}
     {dev : Ghosts W} {i j k : W} (fault : WriteFault) → at < length xs →
     Writing {X = Unit {0}} (flat_map f (take at xs)) o m dev i j (Ok tt) →
     Writing {X = Y} (f (get_or xs at d)) m n dev j k (Err fault) →
@@ -167,14 +167,14 @@ writes_next_stopped {Z = Z} f xs at d {n' = n'} fault h first second =
     (writes_then (flat_map f (take at xs)) (f (get_or xs at d) ++ flat_map f (drop (suc at) xs)) tt first stopped)
 
 -- No item is left.
-pub writes_all : {A W : Type 0} (f : A → List ℕ) (xs : List A) (at : ℕ) {o n : Outgoing}
+pub writes_all : {A W : Type 0} (f : A → List ℕ) (xs : List A) (at : ℕ) {o n : DumpText}
     {dev : Ghosts W} {i k : W} → length xs ≤ at →
     Writing {X = Unit {0}} (flat_map f (take at xs)) o n dev i k (Ok tt) →
     Writing {X = Unit {0}} (flat_map f xs) o n dev i k (Ok tt)
 writes_all f xs at h first = writes_as (ap (flat_map f) (sym (take_all at xs h))) first
 
 -- One more item.
-pub writes_more : {A Y W : Type 0} (f : A → List ℕ) (xs : List A) (x : A) {o m n : Outgoing}
+pub writes_more : {A Y W : Type 0} (f : A → List ℕ) (xs : List A) (x : A) {o m n : DumpText}
     {dev : Ghosts W} {i j k : W} (y : Y) →
     Writing {X = Unit {0}} (flat_map f xs) o m dev i j (Ok tt) →
     Writing (f x) m n dev j k (Ok y) →
@@ -185,7 +185,7 @@ writes_more f xs x y first second =
     (record { bytes = joint.bytes; given = joint.given; answer = joint.answer })
 
 -- The fault of an item, whatever items are still to come.
-pub writes_more_stopped : {A Y Z W : Type 0} (f : A → List ℕ) (xs : List A) (x : A) (ys : List A) {o m n n' : Outgoing}
+pub writes_more_stopped : {A Y Z W : Type 0} (f : A → List ℕ) (xs : List A) (x : A) (ys : List A) {o m n n' : DumpText}
     {dev : Ghosts W} {i j k : W} (fault : WriteFault) →
     Writing {X = Unit {0}} (flat_map f xs) o m dev i j (Ok tt) →
     Writing {X = Y} (f x) m n dev j k (Err fault) →
@@ -227,7 +227,7 @@ number_of_form n (inl e) = ap (λ (z : ℕ). form_number (form_of z)) e ∙ sym 
 number_of_form n (inr e) = ap (λ (z : ℕ). form_number (form_of z)) e ∙ sym e
 
 -- The first line, by the number of its form.
-pub form_as : {X W : Type 0} {n m : ℕ} {o p : Outgoing} {dev : Ghosts W} {i k : W} {r : Result X WriteFault} → n ≡ m → (n ≡ 1) ⊎ (n ≡ 2) →
+pub form_as : {X W : Type 0} {n m : ℕ} {o p : DumpText} {dev : Ghosts W} {i k : W} {r : Result X WriteFault} → n ≡ m → (n ≡ 1) ⊎ (n ≡ 2) →
     Writing (line_text (codes "szg-dump" ∷ decimal m ∷ [])) o p dev i k r →
     Writing (line_text (codes "szg-dump" ∷ decimal (form_number (form_of n)) ∷ [])) o p dev i k r
 form_as {n = n} e one h = writes_as (ap (λ (z : ℕ). line_text (codes "szg-dump" ∷ decimal z ∷ [])) (number_of_form n one ∙ e)) h
@@ -263,7 +263,7 @@ beside_all f (a ∷ xs) (b ∷ ys) zero h = absurd (omega (arith, h))
 beside_all f (a ∷ xs) (b ∷ ys) (suc at) h = ap (λ (z : List _). f a b ++ z) (beside_all f xs ys at (omega (arith, h)))
 
 -- One more pair of items.
-pub writes_beside : {A B Y W : Type 0} (f : A → B → List (List (List ℕ))) (xs : List A) (ys : List B) (at : ℕ) (d : A) (e : B) {o m n : Outgoing}
+pub writes_beside : {A B Y W : Type 0} (f : A → B → List (List (List ℕ))) (xs : List A) (ys : List B) (at : ℕ) (d : A) (e : B) {o m n : DumpText}
     {dev : Ghosts W} {i j k : W} (y : Y) → at < length xs → at < length ys →
     Writing {X = Unit {0}} (lines_text (flat_map_beside f (take at xs) (take at ys))) o m dev i j (Ok tt) →
     Writing (lines_text (f (get_or xs at d) (get_or ys at e))) m n dev j k (Ok y) →
@@ -276,7 +276,7 @@ writes_beside f xs ys at d e y h h' first second =
     (record { bytes = joint.bytes; given = joint.given; answer = joint.answer })
 
 -- The fault of a pair.
-pub writes_beside_stopped : {A B Y Z W : Type 0} (f : A → B → List (List (List ℕ))) (xs : List A) (ys : List B) (at : ℕ) (d : A) (e : B) {o m n n' : Outgoing}
+pub writes_beside_stopped : {A B Y Z W : Type 0} (f : A → B → List (List (List ℕ))) (xs : List A) (ys : List B) (at : ℕ) (d : A) (e : B) {o m n n' : DumpText}
     {dev : Ghosts W} {i j k : W} (fault : WriteFault) → at < length xs → at < length ys →
     Writing {X = Unit {0}} (lines_text (flat_map_beside f (take at xs) (take at ys))) o m dev i j (Ok tt) →
     Writing {X = Y} (lines_text (f (get_or xs at d) (get_or ys at e))) m n dev j k (Err fault) →
@@ -290,7 +290,7 @@ writes_beside_stopped {Z = Z} f xs ys at d e {n' = n'} fault h h' first second =
     (writes_then (lines_text before) (lines_text here ++ lines_text rest.0) tt first stopped)
 
 -- No pair is left.
-pub writes_beside_all : {A B W : Type 0} (f : A → B → List (List (List ℕ))) (xs : List A) (ys : List B) (at : ℕ) {o n : Outgoing}
+pub writes_beside_all : {A B W : Type 0} (f : A → B → List (List (List ℕ))) (xs : List A) (ys : List B) (at : ℕ) {o n : DumpText}
     {dev : Ghosts W} {i k : W} → min (length xs) (length ys) ≤ at →
     Writing {X = Unit {0}} (lines_text (flat_map_beside f (take at xs) (take at ys))) o n dev i k (Ok tt) →
     Writing {X = Unit {0}} (lines_text (flat_map_beside f xs ys)) o n dev i k (Ok tt)
@@ -451,13 +451,13 @@ dump_apart form dump =
     lines-append (front ++ parts) subs ∙ ap (λ (z : List ℕ). z ++ lines_text subs) (lines-append front parts) ∙ append_assoc (lines_text front) (lines_text parts) (lines_text subs)
 
 -- What was written of a dump, if it was written whole and if not.
-pub whole_text : {X W : Type 0} (text : List ℕ) {o n : Outgoing} {dev : Ghosts W} {i k : W} (x : X) → o.held.items ≡ [] → n.held.items ≡ [] →
+pub whole_text : {X W : Type 0} (text : List ℕ) {o n : DumpText} {dev : Ghosts W} {i k : W} (x : X) → o.held.items ≡ [] → n.held.items ≡ [] →
     Writing text o n dev i k (Ok x) → Gives dev i k text 0
 whole_text text {dev = dev} {i = i} {k = k} x none last h =
     let e : h.bytes ≡ text = sym (append-nil h.bytes) ∙ ap (λ (z : List ℕ). h.bytes ++ z) (sym last) ∙ h.answer.0.whole ∙ ap (λ (z : List ℕ). z ++ text) none in
     subst (λ (z : List ℕ). Gives dev i k z 0) e h.given
 
-pub cut_text : {X W : Type 0} (text : List ℕ) {o n : Outgoing} {dev : Ghosts W} {i k : W} (fault : WriteFault) → o.held.items ≡ [] → o.out ≡ 0 →
+pub cut_text : {X W : Type 0} (text : List ℕ) {o n : DumpText} {dev : Ghosts W} {i k : W} (fault : WriteFault) → o.held.items ≡ [] → o.out ≡ 0 →
     Writing {X = X} text o n dev i k (Err fault) → (out : ℕ) × (out < length text) × (fault.out ≡ stated out) × Gives dev i k (take out text) 1
 cut_text text {dev = dev} {i = i} {k = k} fault none zeroed h =
     let stops = h.answer.0 in
@@ -469,22 +469,22 @@ cut_text text {dev = dev} {i = i} {k = k} fault none zeroed h =
     (length h.bytes, omega (arith, more, length-append h.bytes stops.rest, ap length e), counted ∙ ap stated same, subst (λ (z : List ℕ). Gives dev i k z 1) (sym front) h.given)
 
 -- The same for a result that may be a fault.
-pub whole_answer : {W : Type 0} (text : List ℕ) {o n : Outgoing} {dev : Ghosts W} {i k : W} (r : Result (Unit {0}) WriteFault) → o.held.items ≡ [] → OnOk r (n.held.items ≡ []) →
+pub whole_answer : {W : Type 0} (text : List ℕ) {o n : DumpText} {dev : Ghosts W} {i k : W} (r : Result (Unit {0}) WriteFault) → o.held.items ≡ [] → OnOk r (n.held.items ≡ []) →
     Writing text o n dev i k r → OnOk r (Gives dev i k text 0)
 whole_answer text (Ok x) none last h = whole_text text x none last h
 whole_answer text (Err fault) none last h = tt
 
-pub cut_answer : {W : Type 0} (text : List ℕ) {o n : Outgoing} {dev : Ghosts W} {i k : W} (r : Result (Unit {0}) WriteFault) → o.held.items ≡ [] → o.out ≡ 0 →
+pub cut_answer : {W : Type 0} (text : List ℕ) {o n : DumpText} {dev : Ghosts W} {i k : W} (r : Result (Unit {0}) WriteFault) → o.held.items ≡ [] → o.out ≡ 0 →
     Writing text o n dev i k r → IfErr r (λ fault. (out : ℕ) × (out < length text) × (fault.out ≡ stated out) × Gives dev i k (take out text) 1)
 cut_answer text (Ok x) none zeroed h = tt
 cut_answer text (Err fault) none zeroed h = cut_text text fault none zeroed h
 
-pub failed_answer : {W : Type 0} (text : List ℕ) {o n : Outgoing} {dev : Ghosts W} {i k : W} (r : Result (Unit {0}) WriteFault) →
+pub failed_answer : {W : Type 0} (text : List ℕ) {o n : DumpText} {dev : Ghosts W} {i k : W} (r : Result (Unit {0}) WriteFault) →
     Writing text o n dev i k r → OnErr r (HasFailed (dev.failures i) (dev.failures k) (dev.interrupted k))
 failed_answer text (Ok x) h = tt
 failed_answer text (Err fault) h = h.answer.1
 
-pub quiet_answer : {W : Type 0} (text : List ℕ) {o n : Outgoing} {dev : Ghosts W} {i k : W} (r : Result (Unit {0}) WriteFault) →
+pub quiet_answer : {W : Type 0} (text : List ℕ) {o n : DumpText} {dev : Ghosts W} {i k : W} (r : Result (Unit {0}) WriteFault) →
     Writing text o n dev i k r → OnOk r (dev.failures k ≡ dev.failures i)
 quiet_answer text (Ok x) h = h.answer.1
 quiet_answer text (Err fault) h = tt

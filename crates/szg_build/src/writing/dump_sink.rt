@@ -1,7 +1,7 @@
 //! A sink that writes the lines of a dump.
 ghost use Rattle.std.specs.Prelude.{◌+◌, ◌<◌, ◌^◌};
 
-use crate::writing::outgoing::Outgoing;
+use crate::writing::dump_text::DumpText;
 use szg_file::TableIndex;
 
 /// The state of a writer of a dump's subtables, whose values come one after another.
@@ -19,7 +19,7 @@ pub(crate) struct DumpSink<'a> {
     pub count: u64,
     /// The value of that run.
     pub value: u16,
-    pub text: Outgoing,
+    pub text: DumpText,
     /// Whether the writer failed.
     pub failed: bool,
     // A run is no longer than its subtable.

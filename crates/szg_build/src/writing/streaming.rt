@@ -11,7 +11,7 @@ ghost use Rattle.szg_build.specs.Writing.{Writing};
 
 use crate::places::places;
 use crate::writing::dump_sink::DumpSink;
-use crate::writing::outgoing::{Outgoing, Written, flush};
+use crate::writing::dump_text::{DumpText, Written, flush};
 use crate::writing::{
     put_equal, put_flags_and_map, put_front, put_number, put_parts, put_subtable_id, run_length,
 };
@@ -42,7 +42,7 @@ fn put_flags_of<W: Output>(
     index: &TableIndex,
     s: usize,
     output: &mut W,
-    text: &mut Outgoing,
+    text: &mut DumpText,
 ) -> Written
     requires { s < length (heads_of index.now) }
     ensures written { OnOk result (Writing {X = Unit {0}} (lines_text (flags_lines index.now.kind (sub_of (get_or (heads_of index.now) s no_head)))) text.old text.new W.Output output.old output.new (Ok tt)) }
@@ -74,7 +74,7 @@ pub(crate) fn begin_dump<'a, W: Output>(
     ensures failed { OnErr result (HasFailed (W.failures output.old) (W.failures output.new) (W.interrupted output.new)) }
     ensures quiet { OnOk result (W.failures output.new ≡ W.failures output.old) }
 {
-    let mut text = Outgoing::new();
+    let mut text = DumpText::new();
     let material = index.material();
     put_front(form, material, index.kind(), last, output, &mut text)?;
     put_parts(material, index.parts(), output, &mut text)?;

@@ -208,7 +208,7 @@ pub(crate) struct Spelling {
 
 /// What is known at an index of the leaves, while the indexes are walked from the last to the first.
 #[derive(Clone, Copy)]
-struct Walk {
+struct SpellingWalk {
     /// The costs of the cheapest spellings from the next `KEPT` indexes on: from index n on at `n % KEPT`.
     kept: [u64; KEPT],
     /// The cheapest spelling from the index on.
@@ -221,7 +221,7 @@ struct Walk {
     same: usize,
 }
 
-impl Walk {
+impl SpellingWalk {
     /// If the `KEPT` leaves before index `place` are equal to the leaf there, and the costs rise evenly, moves on to the
     /// first of these leaves: repeats the symbols of the `PERIOD` indexes from `place` on. Returns whether it does.
     fn repeat(&mut self, leaves: &[u16], symbols: &mut [u16], place: usize) -> bool
@@ -286,7 +286,7 @@ fn choose(
     let mut chosen = vec![in alloc; 0u16; leaves.len()]?;
     let symbols = chosen.as_mut_slice();
     let (mut steps, mut visited) = (0u64, 0u64);
-    let mut walk = Walk {
+    let mut walk = SpellingWalk {
         kept: [0; KEPT],
         found: NOTHING_FOUND,
         equal: 0,

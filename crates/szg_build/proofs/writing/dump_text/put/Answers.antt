@@ -1,7 +1,7 @@
 use Rattle.std.proofs.Common.{[]}
 use Rattle.std.proofs.lemmas.Result.{err_from_is_err_and}
 use Rattle.szg_build.proofs.Writers.WritingLaws.{writes_stopped}
-use Rattle.szg_build.proofs.writing.outgoing.put.Goals as goal
+use Rattle.szg_build.proofs.writing.dump_text.put.Goals as goal
 
 pub returns-in_err-flush : goal.returns-in_err-flush
 returns-in_err-flush g c =

@@ -11,20 +11,20 @@ pub(crate) type Written = Result<(), WriteFault>;
 
 /// The state of a writer of text.
 #[derive(Drop)]
-pub(crate) struct Outgoing {
+pub(crate) struct DumpText {
     /// The number of bytes written; it saturates at the greatest 64-bit value.
     pub out: u64,
     /// The buffered bytes, which come after the written ones.
     pub held: ArrayVec<u8, 4096>,
 }
 
-impl Outgoing {
+impl DumpText {
     /// Creates the state before the first byte.
-    pub(crate) fn new() -> Outgoing
+    pub(crate) fn new() -> DumpText
         ensures out { result.out ≡ 0 }
         ensures held { result.held.items ≡ [] }
     {
-        Outgoing {
+        DumpText {
             out: 0,
             held: ArrayVec::new(),
         }
@@ -32,7 +32,7 @@ impl Outgoing {
 }
 
 /// Writes the buffered bytes.
-pub(crate) fn flush<W: Output>(output: &mut W, text: &mut Outgoing) -> Written
+pub(crate) fn flush<W: Output>(output: &mut W, text: &mut DumpText) -> Written
     ensures none { Writing [] text.old text.new W.Output output.old output.new result }
     ensures held { OnOk result (text.new.held.items ≡ []) }
 {
@@ -50,7 +50,7 @@ pub(crate) fn flush<W: Output>(output: &mut W, text: &mut Outgoing) -> Written
 }
 
 /// Appends `chunk`, at most 4,096 bytes, to the buffer. The buffer is written first only if `chunk` does not fit.
-pub(crate) fn put<W: Output>(chunk: &[u8], output: &mut W, text: &mut Outgoing) -> Written
+pub(crate) fn put<W: Output>(chunk: &[u8], output: &mut W, text: &mut DumpText) -> Written
     requires { length chunk.now ≤ 4096 }
     ensures { Writing chunk.now text.old text.new W.Output output.old output.new result }
 {

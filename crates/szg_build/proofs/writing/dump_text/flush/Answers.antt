@@ -1,6 +1,6 @@
 use Rattle.std.proofs.Common.{arith}
 use Rattle.szg_build.proofs.Writers.WritingLaws.{writes_held_stopped}
-use Rattle.szg_build.proofs.writing.outgoing.flush.Goals as goal
+use Rattle.szg_build.proofs.writing.dump_text.flush.Goals as goal
 
 pub returns-in-Err-clause-none : goal.returns-in-Err-clause-none
 returns-in-Err-clause-none g c =
