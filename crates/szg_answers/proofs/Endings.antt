@@ -50,16 +50,16 @@ if_ok_then (Ok a) f p = f a p
 if_ok_then (Err e) f p = p
 
 -- the ending of files that were checked, or not up to their end
-pub checked_so : (P Q : CheckReport → Type 0) {F : Type 0} (result : Result (Option CheckReport) AllocError) → ((report : CheckReport) → P report → Q report) → IfOk result (λ report. IfSome report P) → IfOk result (λ report. IfNone report F) →
+pub checked_so : (P Q : CheckReport → Type 0) (F : Type 0) (result : Result (Option CheckReport) AllocError) → ((report : CheckReport) → P report → Q report) → IfOk result (λ report. IfSome report P) → IfOk result (λ report. IfNone report F) →
     AreChecked (Checked result) Q F
-checked_so P Q (Ok (Some report)) is found failed = is report found
-checked_so P Q (Ok None) is found failed = failed
-checked_so P Q (Err error) is found failed = tt
+checked_so P Q F (Ok (Some report)) is found failed = is report found
+checked_so P Q F (Ok None) is found failed = failed
+checked_so P Q F (Err error) is found failed = tt
 
 -- the same, where no manifest was asked for
-pub checked_without : (P : CheckReport → Type 0) (T : Option (List ℕ) → Type 0) {F : Type 0} (result : Result (Option CheckReport) AllocError) → IfOk result (λ report. IfSome report P) → T None → IfOk result (λ report. IfNone report F) →
+pub checked_without : (P : CheckReport → Type 0) (T : Option (List ℕ) → Type 0) (F : Type 0) (result : Result (Option CheckReport) AllocError) → IfOk result (λ report. IfSome report P) → T None → IfOk result (λ report. IfNone report F) →
     AreChecked (Checked result) (λ report. P report × T None) F
-checked_without P T result found none failed = checked_so P (λ report. P report × T None) result (λ report p. (p, none)) found failed
+checked_without P T F result found none failed = checked_so P (λ report. P report × T None) F result (λ report p. (p, none)) found failed
 
 -- the manifest that was written, or could not be
 pub manifest_is : (T : Option (List ℕ) → Type 0) (report : CheckReport) (written : Result Published FileFault) → IfOk written (λ published. published_text published ≡ report.manifest.items) → IfOk written (λ published. T (Some (published_target published))) →

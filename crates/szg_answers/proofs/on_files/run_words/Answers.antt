@@ -10,7 +10,7 @@ returns-in-Some-clause-ending g c = (
   plain_check (map (λ path. path.now) c.in-Some.paths.now),
   inl (map (λ path. path.now) c.in-Some.paths.now, sym c.in-Some.ensures, refl),
   refl,
-  checked_so _ _ c.check_files.result (λ report found. ((plain_options, (None, None, refl, refl, refl), found), refl)) c.check_files.ensures.found c.check_files.ensures.device,
+  checked_so _ _ _ c.check_files.result (λ report found. ((plain_options, (None, None, refl, refl, refl), found), refl)) c.check_files.ensures.found c.check_files.ensures.device,
 )
 
 pub returns-in-Ok-Check-clause-ending : goal.returns-in-Ok-Check-clause-ending
