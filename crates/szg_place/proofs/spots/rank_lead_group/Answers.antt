@@ -4,7 +4,7 @@ use Rattle.szg_values.specs.Material.{has_pawns}
 use Rattle.szg_count.specs.Laws.{IsIn}
 use Rattle.szg_count.specs.Leads.{lead_pawn_sets, triples, king_pairs}
 use Rattle.szg_place.proofs.Ranks.Leading.{lead_stated, leads_pawns, leads_three, leads_two, in_three, in_two, three_items, two_items}
-use Rattle.szg_place.proofs.group_ranks.rank_lead_group.Goals as goal
+use Rattle.szg_place.proofs.spots.rank_lead_group.Goals as goal
 
 pub rank_lead_pawns-requires : goal.rank_lead_pawns-requires
 rank_lead_pawns-requires c =

@@ -7,7 +7,7 @@ use Rattle.szg_count.proofs.Pawns.{some_lead, has_other_pawns-counted}
 use Rattle.szg_place.proofs.Ranks.Leading.{part_four, leads_pawns, leads_three, leads_two, lists_lead, lists_free, inside_free}
 use Rattle.szg_place.proofs.Ranks.KingRanks.{pairs_many}
 use Rattle.szg_place.proofs.Ranks.TripleRanks.{triples_many}
-use Rattle.szg_place.proofs.group_ranks.unrank_group.Goals as goal
+use Rattle.szg_place.proofs.unranking.unrank_group.Goals as goal
 
 -- whether the group has the other pawns
 is_pawns : (sides : Sides) (group : ℕ) {others : ℕ} → others ≡ other_pawns sides → (nat_lt 0 others && group == 1) ≡ (has_other_pawns sides && group == 1)
