@@ -90,18 +90,18 @@ impl Making {
         }
         watcher.round(self.done, self.rounds);
         let tally = PairTally::new(alloc, &self.text)?;
-        let Some(best) = tally.most_frequent(&self.text) else {
+        let Some((pair, count)) = tally.most_frequent(&self.text) else {
             return Ok(false);
         };
         let pairs = (self.entries.len() as u64).saturating_pow(2);
         let pass = (self.text.cells.len() as u64).saturating_add(pairs);
-        if u64::from(best.count) < pass / DENSE_PART {
-            return self.make_listed(alloc, tally, best.count, watcher);
+        if u64::from(count) < pass / DENSE_PART {
+            return self.make_listed(alloc, tally, count, watcher);
         }
-        let Some(new) = self.add(best.pair)? else {
+        let Some(new) = self.add(pair)? else {
             return Ok(false);
         };
-        self.text.join(best.pair, new);
+        self.text.join(pair, new);
         Ok(true)
     }
 
@@ -129,7 +129,7 @@ impl Making {
                 self.more = self.more.saturating_mul(2);
                 break;
             };
-            let Some(new) = self.add(picked.pair())? else {
+            let Some(new) = self.add(picked.pair.0)? else {
                 is_more = false;
                 break;
             };

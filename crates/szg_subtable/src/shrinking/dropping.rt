@@ -21,10 +21,8 @@ pub(crate) struct Kept {
 /// Raises the counts of a pair's left and right symbol by `count`.
 fn raise_halves(counts: &mut [u64], entry: [u8; 3], count: u64) {
     for half in [left(entry), right(entry)] {
-        let place = usize::from(half);
-        if place < counts.len() {
-            let raised = counts[place].saturating_add(count);
-            counts[place] = raised;
+        if let Some(raised) = counts.get_mut(usize::from(half)) {
+            *raised = raised.saturating_add(count);
         }
     }
 }
@@ -62,13 +60,12 @@ pub(crate) fn without_poor(alloc: Global, paired: &Paired, least: u64) -> Result
     let mut counts = counts_of(alloc, entries.len(), &paired.symbols)?;
     let mut totals = Totals {
         symbols: paired.symbols.len() as u64,
-        most: counts.iter().fold(0u64, |most, count| most.max(*count)),
+        most: counts.iter().copied().max().unwrap_or(0),
     };
     // how often each symbol is a half of a kept pair: all pairs with it come after it
     let mut uses = vec![in alloc; 0u64; entries.len()]?;
     let mut are_kept = vec![in alloc; true; entries.len()]?;
-    for later in 0..entries.len() {
-        let place = entries.len() - 1 - later;
+    for place in (0..entries.len()).rev() {
         let entry = entries[place];
         if is_leaf(entry) {
             continue;

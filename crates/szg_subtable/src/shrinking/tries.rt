@@ -30,10 +30,7 @@ impl Best {
     /// Returns the approximate number of bytes with the best text: those of its subtable and, if `other_bytes` is
     /// known, also the table's other bytes before the sparse indexes.
     pub(crate) fn bytes(&self) -> u64 {
-        match self.other_bytes {
-            None => self.cost,
-            Some(_) => self.cost / 64,
-        }
+        self.other_bytes.map_or(self.cost, |_| self.cost / 64)
     }
 
     /// Returns what a try costs.
