@@ -74,20 +74,20 @@ impl Cells {
             }
             let left = count - read;
             let symbol = cells[read];
-            if read % STEP < 2 && left > STEP {
-                let end = read + STEP;
-                if are_all(&cells[read + 1..end + 1], symbol) {
-                    let is_pair = symbol == pair.left && symbol == pair.right;
-                    let (due, more) = if is_pair {
-                        (new, STEP / 2)
-                    } else {
-                        (symbol, STEP)
-                    };
-                    cells[write..write + more].fill(due);
-                    write += more;
-                    read = end;
-                    continue;
-                }
+            if read % STEP < 2
+                && left > STEP
+                && are_all(&cells[read + 1..read + STEP + 1], symbol)
+            {
+                let is_pair = symbol == pair.left && symbol == pair.right;
+                let (due, more) = if is_pair {
+                    (new, STEP / 2)
+                } else {
+                    (symbol, STEP)
+                };
+                cells[write..write + more].fill(due);
+                write += more;
+                read += STEP;
+                continue;
             }
             if symbol == pair.left && left > 1 && cells[read + 1] == pair.right {
                 cells[write] = new;

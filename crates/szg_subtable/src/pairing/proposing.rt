@@ -70,12 +70,8 @@ impl Making {
         let rounds = u64::from(self.rounds.saturating_sub(self.done));
         let pairs = rounds.saturating_mul(self.more.saturating_mul(LISTED_PAIRS));
         let percent = self.more.saturating_mul(LISTED_PERCENT);
-        tally.least_count(
-            &self.text,
-            most,
-            pairs,
-            symbols.saturating_mul(percent) / 100,
-        )
+        let times = symbols.saturating_mul(percent) / 100;
+        tally.least_count(&self.text, most, pairs, times)
     }
 
     /// Counts all pairs. If the most frequent one is frequent enough (`DENSE_PART`), makes this pair in one pass over

@@ -6,6 +6,7 @@ ghost use Rattle.std.specs.Prelude.{◌≡◌, ◌<◌, ◌≤◌, length, true}
 
 use crate::pairing::cells::{are_all, length_in};
 use crate::pairing::leaves::MAX_SYMBOLS;
+use crate::pairing::numbering::Renumbered;
 use std::alloc::{AllocError, Global};
 use szg_pairs::entry::{is_leaf, left, right};
 
@@ -188,7 +189,7 @@ pub(crate) struct Spelling {
 }
 
 /// What is known at an index of the leaves, while the indexes are walked from the last to the first.
-#[derive(Clone, Copy)]
+#[derive(Clone, Copy, Default)]
 struct SpellingWalk {
     /// The costs of the cheapest spellings from the next `KEPT` indexes on: from index n on at `n % KEPT`.
     kept: [u64; KEPT],
@@ -267,13 +268,7 @@ fn choose(
     let mut chosen = vec![in alloc; 0u16; leaves.len()]?;
     let symbols = chosen.as_mut_slice();
     let (mut steps, mut visited) = (0u64, 0u64);
-    let mut walk = SpellingWalk {
-        kept: [0; KEPT],
-        found: Cheapest::default(),
-        equal: 0,
-        rise: 0,
-        same: 0,
-    };
+    let mut walk = SpellingWalk::default();
     let mut place = leaves.len();
     while place > 0 {
         if walk.repeat(leaves, symbols, place) {
@@ -295,30 +290,28 @@ fn choose(
     }))
 }
 
-/// Spells leaves with the least total cost, where symbol s costs `costs[s]` and has `lens[s]` values. First the best
-/// symbol is chosen at each index, from the last to the first; then the symbols of the text are collected. None if more
-/// than `limit` nodes are visited.
+/// Spells leaves with the least total cost, where symbol s costs `costs[s]`. First the best symbol is chosen at each
+/// index, from the last to the first; then the symbols of the text are collected. None if more than `limit` nodes are
+/// visited.
 pub(crate) fn spell(
     alloc: Global,
     leaves: &[u16],
-    entries: &[[u8; 3]],
-    lens: &[u16],
+    dictionary: &Renumbered,
     costs: &[u64],
     limit: u64,
 ) -> Result<Option<Spelling>, AllocError> {
-    let tree = Tree::new(alloc, entries, costs)?;
+    let tree = Tree::new(alloc, &dictionary.entries, costs)?;
     let Some(mut spelling) = choose(alloc, &tree, leaves, limit)? else {
         return Ok(None);
     };
     let mut symbols = Vec::new(alloc);
     let mut place = 0usize;
     for _ in 0..spelling.symbols.len() {
-        if place >= spelling.symbols.len() {
+        let Some(symbol) = spelling.symbols.get(place) else {
             break;
-        }
-        let symbol = spelling.symbols[place];
-        symbols.push(symbol)?;
-        place = place.saturating_add(length_in(lens, symbol));
+        };
+        symbols.push(*symbol)?;
+        place = place.saturating_add(length_in(&dictionary.lens, *symbol));
     }
     spelling.symbols = symbols;
     Ok(Some(spelling))
