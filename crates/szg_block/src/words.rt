@@ -3,6 +3,7 @@
 ghost use Rattle.std.specs.Prelude.{◌≡◌, ◌<◌, ◌≤◌, ◌+◌, ◌-◌, ◌↔◌, ◌++◌, ◌^◌, IsTrue, IfNone, IfSome, OnOk, length, take, slice_get, Some};
 ghost use Rattle.szg_code.specs.Acceptance.{IsCode};
 ghost use Rattle.szg_code.specs.Bits.{bits};
+ghost use Rattle.szg_code.specs.Least.{HasBytesAbove};
 ghost use Rattle.szg_pairs.specs.Dictionary.{IsDictionary};
 ghost use Rattle.szg_pairs.specs.Expansion.{expansion_of};
 ghost use Rattle.szg_code.specs.Cursor.{TakesWords};
@@ -11,9 +12,7 @@ ghost use Rattle.szg_code.specs.Spelling.{BeginsWithNoWord};
 ghost use Rattle.szg_block.specs.Spelled.{AreBelow, values_of, values_spelled, word_at, pairs_above};
 
 use std::alloc::AllocError;
-use szg_code::{
-    Bits, Code, EndlessBits, NextWords, next_endless, next_word, next_word_if, next_words,
-};
+use szg_code::{Bits, Code, EndlessBits, NextWords, next_endless, next_word_if, next_words};
 use szg_pairs::Dict;
 use szg_pairs::entry::{is_leaf, left, right};
 
@@ -74,13 +73,15 @@ struct Reached<'a> {
 }
 
 /// Decodes one word, or if `TWO`, one or two; moves the reader past what it decoded, and returns the symbols. None if the
-/// bits left do not begin with a word. A single word is decoded as `next_endless` does.
+/// bits left do not begin with a word. A single word is decoded as `next_endless` does, with the code's `bytes_above`.
 #[inline(always)]
-fn step<const TWO: bool, const TABLE: bool>(
+fn step<const TWO: bool, const TABLE: bool, const BYTES: bool>(
     code: &Code,
+    above: u64,
     words: &mut EndlessBits,
 ) -> Option<NextWords>
     requires accepted { IsCode code.now }
+    requires above { HasBytesAbove code.now above }
     ensures there { IfSome result (λ taken. AreBelow code.now.symbols (symbols_of taken)) }
     ensures found { IfSome result (λ taken. words.new.past ≡ 0 → (words.old.past ≡ 0) × TakesWords code.now words.old.cursor words.new.cursor (symbols_of taken)) }
     ensures past { IfSome result (λ _. 0 < words.new.past → BeginsWithNoWord code.now words.old.cursor.left) }
@@ -92,7 +93,7 @@ fn step<const TWO: bool, const TABLE: bool>(
         *words = bits.endless();
         return Some(taken);
     }
-    match next_endless::<TABLE>(code, words) {
+    match next_endless::<TABLE, BYTES>(code, above, words) {
         Some(symbol) => Some(NextWords::One(symbol)),
         None => None,
     }
@@ -101,13 +102,15 @@ fn step<const TWO: bool, const TABLE: bool>(
 /// Decodes words up to those that contain the value at `index`. None if the bits left spell too few values. Whether the last
 /// word is within the bytes is asked once, after it.
 #[inline(always)]
-fn reach_by<'a, const TWO: bool, const TABLE: bool>(
+fn reach_by<'a, const TWO: bool, const TABLE: bool, const BYTES: bool>(
     code: &Code,
+    above: u64,
     dict: &Dict,
     left: Bits<'a>,
     index: u64,
 ) -> Option<Reached<'a>>
     requires accepted { IsCode code.now }
+    requires above { HasBytesAbove code.now above }
     requires symbols { code.now.symbols ≡ length dict.now }
     ensures there { IfSome result (λ reached. AreBelow (length dict.now) (symbols_of reached.words)) }
     ensures count { IfSome result (λ reached. reached.count ≡ length (values_of dict.now (symbols_of reached.words))) }
@@ -120,7 +123,7 @@ fn reach_by<'a, const TWO: bool, const TABLE: bool>(
 {
     let mut left = left.endless();
     let mut ahead = index;
-    while let Some(words) = step::<TWO, TABLE>(code, &mut left) {
+    while let Some(words) = step::<TWO, TABLE, BYTES>(code, above, &mut left) {
         let count = count_of(dict, words);
         if ahead < count {
             let left = left.within()?;
@@ -150,12 +153,15 @@ fn reach<'a>(code: &Code, dict: &Dict, left: Bits<'a>, index: u64) -> Option<Rea
     ensures spelled { IfSome result (λ reached. length (values_spelled code.now dict.now left.entry.left) ≡ (index - reached.index) + reached.count + length (values_spelled code.now dict.now reached.left.left)) }
     ensures none { IfNone result (length (values_spelled code.now dict.now left.entry.left) ≤ index) }
 {
-    if code.is_read_word_by_word() {
-        reach_by::<false, false>(code, dict, left, index)
+    let above = code.bytes_above();
+    if above < u64::MAX {
+        reach_by::<false, false, true>(code, above, dict, left, index)
+    } else if code.is_read_word_by_word() {
+        reach_by::<false, false, false>(code, above, dict, left, index)
     } else if code.has_two_words() {
-        reach_by::<true, true>(code, dict, left, index)
+        reach_by::<true, true, false>(code, above, dict, left, index)
     } else {
-        reach_by::<false, true>(code, dict, left, index)
+        reach_by::<false, true, false>(code, above, dict, left, index)
     }
 }
 
@@ -216,34 +222,10 @@ pub fn value_at(code: &Code, dict: &Dict, block: &[u8], index: u64) -> u16
     requires within { index < length (values_spelled code.now dict.now (bits block.now)) }
     ensures { slice_get (values_spelled code.now dict.now (bits block.now)) index ≡ Some result }
 {
-    if code.is_read_word_by_word() {
-        return value_by_words(code, dict, Bits::new(block), index);
-    }
     let Some(reached) = reach(code, dict, Bits::new(block), index) else {
         unreachable!()
     };
     value_in(dict, reached.words, reached.index as u16)
-}
-
-/// Returns the value at `index` among those that the remaining bits decode to. Decodes word by word. The bits must
-/// spell more than `index` values.
-#[inline(always)]
-fn value_by_words(code: &Code, dict: &Dict, left: Bits, index: u64) -> u16
-    requires accepted { IsCode code.now }
-    requires symbols { code.now.symbols ≡ length dict.now }
-    requires within { index < length (values_spelled code.now dict.now left.left) }
-    ensures { slice_get (values_spelled code.now dict.now left.entry.left) index ≡ Some result }
-{
-    let mut words = left;
-    let mut ahead = index;
-    'words: loop {
-        let symbol = next_word(code, &mut words);
-        let count = u64::from(dict.len(symbol));
-        if ahead < count {
-            return dict.value_at(symbol, ahead as u16);
-        }
-        ahead -= count;
-    }
 }
 
 /// A value that was found in a block, and the steps that led to it.
