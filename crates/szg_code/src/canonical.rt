@@ -71,8 +71,7 @@ impl Code {
         match header.bases() {
             Err(j) => Err(CodeFault::TooFull(j)),
             Ok(bases) => {
-                let zero_symbols = header.zero_symbols(&bases);
-                let bases = header.shifted(&bases);
+                let (bases, zero_symbols) = header.by_length(&bases);
                 let code = Code {
                     starts: header.starts(&bases),
                     bases,

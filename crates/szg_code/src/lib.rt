@@ -5,7 +5,6 @@
 //! of symbols. Bits are read from each byte high bit first.
 #![tactic(auto)]
 
-mod bytes;
 mod canonical;
 mod checks;
 mod code_word;

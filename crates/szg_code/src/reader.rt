@@ -1,5 +1,5 @@
 //! A reader of words, by windows of 64 bits as in de Man's probing code.
-ghost use Rattle.std.specs.Prelude.{◌≡◌, ◌*◌, ◌^◌, ◌<◌, ◌≤◌, ◌%◌, ◌+◌, [], ◌++◌, IfNone, IfSome, length, take, drop};
+ghost use Rattle.std.specs.Prelude.{◌≡◌, ◌*◌, ◌^◌, ◌<◌, ◌≤◌, ◌%◌, ◌+◌, [], IfNone, IfSome, length, take, drop};
 ghost use Rattle.szg_code.specs.Bits.{bits, number};
 ghost use Rattle.szg_code.specs.Least.{HasBytesAbove};
 ghost use Rattle.szg_code.specs.Spelling.{BeginsWithNoWord};
@@ -7,7 +7,6 @@ ghost use Rattle.szg_code.specs.Cursor.{Cursor, TakesWord, TakesWords};
 ghost use Rattle.szg_code.specs.NextWords.{symbols_of};
 ghost use Rattle.szg_code.specs.Window.{IsWordReader, padded};
 
-use crate::bytes::byte_or_zero;
 use crate::canonical::Code;
 use crate::two_words::TwoWords;
 use byteorder::{BigEndian, ByteOrder};
@@ -132,23 +131,16 @@ impl<'a> Bits<'a> {
     }
 }
 
-/// Reads eight bytes at offset `at` as a big-endian number, with zeros past the end, byte by byte. For a few bytes.
+/// Reads the bytes from offset `at` on, at most eight, as a big-endian number of eight bytes, with zeros past the end.
 #[cold]
 #[inline(never)]
 fn read_short(bytes: &[u8], at: usize) -> u64
-    requires { at < 2 ^ 61 }
+    requires some { at < length bytes.now }
+    requires few { length bytes.now ≤ 8 }
     ensures { result ≡ number (padded 64 (drop (8 * at) (bits bytes.now))) }
 {
-    BigEndian::read_u64(&[
-        byte_or_zero(bytes, at),
-        byte_or_zero(bytes, at + 1),
-        byte_or_zero(bytes, at + 2),
-        byte_or_zero(bytes, at + 3),
-        byte_or_zero(bytes, at + 4),
-        byte_or_zero(bytes, at + 5),
-        byte_or_zero(bytes, at + 6),
-        byte_or_zero(bytes, at + 7),
-    ])
+    let count = bytes.len() - at;
+    BigEndian::read_uint(&bytes[at..], count) << (8 * (8 - count))
 }
 
 /// Reads eight bytes at offset `at` as a big-endian number, with zeros past the end. None if there is no byte.
