@@ -3,24 +3,13 @@
 use std::alloc::Global;
 use std::io::{self, BufRead, BufReader, BufWriter, Read, Write};
 use std::rt::Files;
-use szg_answers::Outcome;
 use szg_files::{Disk, FileSystem};
 use szg_results::{Folders, ResultStop, board_of, stop_text};
 use szg_words::{AnswerForm, ProbeWords};
 
-/// Returns the outcome of a command that wrote its lines and says whether nothing was refused, or that failed.
-pub(crate) fn outcome_of(written: io::Result<bool>) -> Outcome {
-    match written {
-        Ok(true) => Outcome::Done,
-        Ok(false) => Outcome::Refused,
-        Err(error) if error.kind() == io::ErrorKind::OutOfMemory => Outcome::Memory,
-        Err(_) => Outcome::Device,
-    }
-}
-
 /// Writes the results that a command line asks for, one position's on a terminal below its board; returns whether no position
 /// was refused.
-pub(crate) fn write_results(
+pub fn write_results(
     alloc: Global,
     machine: &impl Files,
     asked: ProbeWords<'_>,

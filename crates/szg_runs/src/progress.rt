@@ -1,9 +1,10 @@
 //! How far a build, a verification or the reading of files has come, shown on a terminal.
 use std::cell::Cell;
 use std::fmt::{self, Display, Formatter};
+use std::io::{self, Write};
 use std::time::{Clock, Duration, Instant};
-use szg_build::Watcher;
 use szg_files::ReadWatcher;
+use szg_subtable::Watcher;
 use szg_values::Material;
 use szg_verified::Progress;
 use szg_verify::Watcher as WalkWatcher;
@@ -232,7 +233,7 @@ impl<'a, E: Eprint, C: Clock> ReadLine<'a, E, C> {
     }
 
     /// Erases the line if there is one.
-    pub(crate) fn erase(&self) {
+    pub fn erase(&self) {
         let mut so_far = self.so_far.get();
         if so_far.is_shown {
             let _ = eprint!(self.errors; "{ERASE}");
@@ -279,5 +280,27 @@ impl<'a, E: Eprint, C: Clock> ReadWatcher for ReadLine<'a, E, C> {
         if self.is_terminal {
             self.add(0, bytes);
         }
+    }
+}
+
+/// An output whose lines come above what a terminal shows of reads.
+#[derive(Drop)]
+pub struct Above<'a, 'b, W, E, C> {
+    /// Where the lines are written.
+    pub output: W,
+    /// The line of reads, which is erased before each write.
+    pub reads: &'a ReadLine<'b, E, C>,
+}
+
+impl<'a, 'b, W: Write, E: Eprint, C: Clock> Write for Above<'a, 'b, W, E, C> {
+    ghost contents = { λ above. W.contents above.output };
+
+    fn write(&mut self, buf: &[u8]) -> io::Result<usize> {
+        self.reads.erase();
+        self.output.write(buf)
+    }
+
+    fn flush(&mut self) -> io::Result<()> {
+        self.output.flush()
     }
 }
