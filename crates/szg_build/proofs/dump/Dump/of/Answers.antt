@@ -1,12 +1,13 @@
-use Rattle.std.proofs.Common.{◌≡◌, ◌<◌, ℕ, List, Option, Some, length, map, ap, subst, ◌∙◌, arith, [], ◌∷◌}
+use Rattle.std.proofs.Common.{◌≡◌, ◌<◌, ℕ, List, Option, Some, length, map, ap, sym, subst, ◌∙◌, arith, rules, [], ◌∷◌}
 use Rattle.std.specs.Prelude.{is_some, IfSome}
+use Rattle.std.proofs.lemmas.Grind.{common_steps}
 use Rattle.std.proofs.lemmas.List.{map-append, take_all}
 use Rattle.szg_values.specs.declared.Kind.{Kind}
 use Rattle.szg_file.specs.Contents.{Slot, Subtable}
 use Rattle.szg_file.specs.Values.{values_of}
 use Rattle.szg_build.specs.Built.{subtables_in}
 use Rattle.szg_build.proofs.Builders.PlaceLaws.{place_at, place_count, pairs_more}
-use Rattle.szg_build.proofs.copies.copy_values.Goals as goal
+use Rattle.szg_build.proofs.dump.Dump.of.Goals as goal
 
 -- the values of a subtable that is there
 parsed_values : (kind : Kind) (list : List ℕ) {o : Option (Slot × Subtable)} {x : Slot × Subtable} → o ≡ Some x → IfSome o (λ found. list ≡ values_of kind found) → list ≡ values_of kind x
@@ -32,4 +33,12 @@ pub returns : goal.returns
 returns c =
     let t = c.args.table.now.contents in
     let all = take_all c.places.place-index (subtables_in t) (omega (arith, place_count t c.table_subtable_ids-place-items.result.now c.table_subtable_ids-place-items.ensures, c.places-test.false)) in
-    c.places.invariant ∙ ap (map (values_of t.kind)) all
+    record {
+      material = first_of (search rules, cc, grind (arith, common_steps));
+      kind = first_of (search rules, cc, grind (arith, common_steps));
+      parts = first_of (search rules, cc, grind (arith, common_steps));
+      flags = first_of (search rules, cc, grind (arith, common_steps));
+      maps = first_of (search rules, cc, grind (arith, common_steps));
+      last = first_of (search rules, cc, grind (arith, common_steps));
+      values = sym (c.places.invariant ∙ ap (map (values_of t.kind)) all);
+    }
