@@ -108,18 +108,6 @@ fn read_gathered<R: Input, V: Watcher>(
     read_subs(form, header, choice, input, incoming, watcher)
 }
 
-/// Reads the whole text and lists all values.
-fn read_text<R: Input>(input: &mut R, incoming: &mut Incoming) -> Result<Dump, DumpReadFault>
-    requires { held_of incoming.old ≡ [] }
-    ensures lines { ReadsLines dump_format dump_seen incoming.old incoming.new R.Input input.old input.new result }
-    ensures held { OnOk result (held_of incoming.new ≡ []) }
-    ensures memory { IsErrOf result DumpReadFault.Memory → LacksLines dump_format 0 incoming.old R.Input input.old input.new }
-{
-    let gathered = read_gathered(LISTED, input, incoming, &mut Unwatched)?;
-    let dump = list_dump(incoming.alloc, gathered)?;
-    Ok(dump)
-}
-
 /// Reads the text of a dump, in the form that its first line names. No byte after its last line is read.
 ///
 /// Errors: `Line` has the reason and the number of the first refused line, counted from 1; the number saturates at the
@@ -142,7 +130,9 @@ pub fn read_dump<R: Input>(alloc: Global, input: &mut R) -> Result<Dump, DumpRea
     ensures quiet { (IsErrOf result DumpReadFault.Device → ⊥) → R.failures input.new ≡ R.failures input.old }
 {
     let mut incoming = Incoming::new(alloc);
-    read_text(input, &mut incoming)
+    let gathered = read_gathered(LISTED, input, &mut incoming, &mut Unwatched)?;
+    let dump = list_dump(alloc, gathered)?;
+    Ok(dump)
 }
 
 /// Reads the text of a dump as `read_dump` does, and packs its subtables by `choice` while it reads. `watcher` sees
