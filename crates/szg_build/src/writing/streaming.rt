@@ -203,9 +203,6 @@ pub(crate) fn end_dump<W: Output>(sink: &mut DumpSink<'_>, output: &mut W) -> Wr
 }
 
 impl<W: Output> ValueSink<W> for DumpSink<'_> {
-    ghost use Rattle.std.specs.Prelude.{true};
-    ghost use Rattle.szg_build.specs.Streaming.{Goes};
-
     ghost wanted = { λ _ _ _. true };
 
     ghost accepts = { λ s out values s' out'. Goes W.Output values s out s' out' };
