@@ -9,8 +9,6 @@ use arrayvec::ArrayVec;
 use itoa::Buffer;
 use szg_file::typed::bytes_fit;
 
-// ---- cutting
-
 /// Returns the single word after `front`. Errors: `Field` if the text is not `front` and one word.
 pub(crate) fn one_word<'a>(front: &[u8], text: &'a [u8]) -> Result<&'a [u8], DumpFault>
     ensures { MatchResult result (λ word. IsWord word.now × (text.now ≡ front.now ++ word.now))
@@ -56,8 +54,6 @@ pub(crate) fn two_words<'a>(
     let second = one_word(middle, last)?;
     Ok((first, second))
 }
-
-// ---- values
 
 /// Parses a decimal number up to `limit`. Errors: `Number` if the word is not the decimal text of such a number.
 pub(crate) fn number_of(word: &[u8], limit: u64) -> Result<u64, DumpFault>
