@@ -21,20 +21,12 @@ use szg_values::Kind;
 
 // ---- the lines before a subtable's values
 
-/// Returns the number of subtables of a table for which the index has a slot (part, side and size), and in DTZ also
-/// flags and an item in the list of maps.
+/// Returns the number of subtables of a table.
 fn count_subs(index: &TableIndex) -> usize
     ensures { result ≡ head_count index.now }
 {
     let places = places(index.material(), index.kind());
-    let heads = match index.kind() {
-        Kind::Wdl => index.slots().len(),
-        Kind::Dtz => {
-            let flagged = index.slots().len().min(index.flags().len());
-            flagged.min(index.maps().len())
-        }
-    };
-    places.len().min(heads)
+    places.len().min(index.flags().len())
 }
 
 /// Writes the flags and the map of subtable `s` of a DTZ table. For a WDL table it writes nothing.

@@ -1,6 +1,6 @@
 use Rattle.std.proofs.Common.{◌≡◌, ℕ, List, ◌++◌}
 use Rattle.szg_build.specs.Streaming.{Goes}
-use Rattle.szg_build.proofs.writing.table_dump.put_blocks.Given as goal
+use Rattle.szg_build.proofs.writing.table_dump.put_stored.Given as goal
 
 -- the values so far are taken, and the others are left
 abbrev pub invariant-each : goal.invariant-each
