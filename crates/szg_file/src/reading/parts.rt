@@ -205,6 +205,8 @@ pub(crate) fn push_slots(slots: &mut ArrayVec<Slot, 8>, part: u8, sizes: SideSiz
 }
 
 /// Reads the parts.
+// Not inlined, so that its temporaries take no stack while `read_front` reads the block lengths.
+#[inline(never)]
 pub(crate) fn read_parts<R: Input>(
     alloc: Global,
     material: &Material,
