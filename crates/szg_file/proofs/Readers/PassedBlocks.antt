@@ -62,7 +62,8 @@ field_is n place bytes chunk filled e =
           sym (take-append-drop n bytes) ∙ ap (λ (z : List ℕ). take n bytes ++ z) none ∙ append-nil (take n bytes) ∙ front
     ]
 
-moved_chunk : {R : Type 0} (n : ℕ) (chunk : List ℕ) {f m : ReaderState}
+-- the bytes of a field that was read
+pub moved_chunk : {R : Type 0} (n : ℕ) (chunk : List ℕ) {f m : ReaderState}
     {dev : Ghosts R} {i k : R} →
     Reading (field n means) (λ (_ : Unit {0}). chunk) f m dev i k (Ok tt) → since (dev.moved i) (dev.moved k) ≡ chunk
 moved_chunk n chunk {f = f} {dev = dev} {i = i} {k = k} h =

@@ -53,7 +53,7 @@ reads_unfilled slot sub view fault some filled =
 abbrev pub placed_at : Sub → ℕ → PlacedSub
 placed_at sub first = record { sub = sub; first = first }
 
-constant_whole : (bytes : List ℕ) (sub : Sub) (first : ℕ) → layout_of sub ≡ None → whole_sub bytes (placed_at sub first) ≡ subtable_of sub
+pub constant_whole : (bytes : List ℕ) (sub : Sub) (first : ℕ) → layout_of sub ≡ None → whole_sub bytes (placed_at sub first) ≡ subtable_of sub
 constant_whole bytes (Constant flags byte) first e = refl
 constant_whole bytes (Pairs flags block_bits span_bits extra blocks code dict sparse lengths packed) first e = absurd cc
 

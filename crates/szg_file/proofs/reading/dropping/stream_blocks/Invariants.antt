@@ -7,7 +7,7 @@ use Rattle.szg_file.specs.Placed.{since}
 use Rattle.szg_file.specs.Reading.{Reading}
 use Rattle.szg_file.specs.Streaming.{Accepted, values_if}
 use Rattle.szg_file.proofs.Readers.Streamed.{first_values}
-use Rattle.szg_file.proofs.reading.streaming.stream_blocks.Given as goal
+use Rattle.szg_file.proofs.reading.dropping.stream_blocks.Given as goal
 
 abbrev pub invariant-each_block : goal.invariant-each_block
 invariant-each_block g l = record {
