@@ -29,8 +29,8 @@ use Rattle.szg_io.specs.declared.device.Input.{Ghosts}
 use Rattle.szg_io.proofs.DeviceLaws.{Takes-none}
 
 -- an allocation is refused before any byte is read
-pub lacks_first : {A X R : Type 0} (f : Format A) (view : X → A) {o : ReaderState}
-    {dev : Ghosts R} {i : R} → Reading f view o o dev i i (Err Memory)
+pub lacks_first : {A X R : Type 0} (f : Format A) (view : X → A) {o n : ReaderState}
+    {dev : Ghosts R} {i : R} → Reading f view o n dev i i (Err Memory)
 lacks_first f view {o = o} {dev = dev} {i = i} = record { bytes = []; taken = Takes-none dev i 1; answer = (stops-nil f o.place, refl) }
 
 -- a fault is independent of the view
