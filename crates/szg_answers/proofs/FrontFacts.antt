@@ -249,7 +249,7 @@ index_refused kept content h part side index refusal is = subst (λ (o : Option 
 
 -- what is told of the front and the block is told of the file that was opened
 pub looked_up : {F : Type 0} (device : input.Ghosts F) (request : Request) (file file' : F) (size : ℕ) (opened : OpenedFront) (Stated : List ℕ → Contents → Type 0) →
-    IfSome (device.coming file) (λ bytes. size ≡ length bytes) → IsFrontTaken device request size file file' opened → IsFetchedIn device file' opened.front opened.read opened.size Stated →
+    IfSome (device.coming file) (λ bytes. size ≡ length bytes) → IsFrontTaken device request size file file' opened → IsFetchedIn device file' opened.front opened.read opened.front.length Stated →
     IsLookedUp device request file Stated
 looked_up device request file file' size opened Stated long o f = record {
   material = o.material;
@@ -260,7 +260,7 @@ looked_up device request file file' size opened Stated long o f = record {
     following = file';
     front_taken = o.taken;
     block_taken = f.taken;
-    room = omega (arith, f.room, o.read_is, o.size_is);
+    room = omega (arith, f.room, o.read_is, o.length_is);
   };
   stated = λ content p.
       let holds : bytes_at content (opened.read + f.skipped) (length f.block) ≡ f.block = ap (λ (n : ℕ). bytes_at content (n + f.skipped) (length f.block)) o.read_is ∙ p.holds in

@@ -102,7 +102,6 @@ pub record IsFrontTaken {F : Type 0} (device : input.Ghosts F) (request : Reques
   pub named : parsed request.name.now ≡ Ok material
   pub material_is : opened.front.index.material ≡ material
   pub kind_is : opened.front.index.kind ≡ request.kind
-  pub size_is : opened.size ≡ size
   pub bytes : List ℕ
   pub taken : Takes device file file' bytes 1
   pub read_is : opened.read ≡ length bytes

@@ -7,6 +7,7 @@ ghost use Rattle.szg_answers.specs.Copies.{IsCopied};
 
 use crate::commands::words_outcome;
 use crate::on_files::{Ending, FileFailure, LineKind, failed_ending, given, unread_list};
+use sha2::{Digest, Sha256};
 use std::alloc::{AllocError, Global};
 use std::fs::Metadata;
 use std::io::ErrorKind;
@@ -19,7 +20,7 @@ use szg_archive::{
 use szg_build::StreamFault;
 use szg_files::{Draft, FileFault, FileSystem, Lock, Published, Reasons};
 use szg_io::{Input, Output, give_whole, take_whole};
-use szg_sums::{Hasher, Sha256, Sums, sha256_of};
+use szg_sums::Sums;
 use szg_words::{CopyWords, same_name_error};
 
 /// A file that was checked.
@@ -36,19 +37,19 @@ pub struct Copied<'a> {
 fn copy_bytes<I: Input, W: Output>(input: &mut I, output: &mut W) -> Result<[u8; 32], StreamFault>
     ensures { IfOk result (λ digest. (text : List ℕ) × Gives W.Output output.old output.new text 0 × (digest ≡ sha256 text)) }
 {
-    let mut hasher: Sha256 = Hasher::empty();
+    let mut hasher = Sha256::new();
     let mut chunk = [0; 16384];
     'chunks: for _ in 0..u64::MAX {
         let Ok(count) = take_whole(input, &mut chunk) else {
             return Err(StreamFault::Input);
         };
         let bytes = &chunk[..count];
-        hasher.feed(bytes);
+        hasher.update(bytes);
         if give_whole(output, bytes).is_err() {
             return Err(StreamFault::Output);
         }
         if count < chunk.len() {
-            return Ok(sha256_of(hasher));
+            return Ok(hasher.finalize());
         }
     }
     Err(StreamFault::Input)

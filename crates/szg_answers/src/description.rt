@@ -8,17 +8,6 @@ use szg_block::Sub;
 use szg_file::{FrontTable, Map, Slot, Table, TableIndex, constant_value, file_len};
 use szg_values::{Kind, Material};
 
-/// What is described of a table after its name, its kind and its file's length.
-#[derive(Drop)]
-struct Described<'a> {
-    index: &'a TableIndex,
-    byte4: u8,
-    // in file order
-    subs: Vec<&'a Sub>,
-    // the last sixteen bytes
-    last: &'a [u8],
-}
-
 /// What `show` prints of a table: all that it holds but its values, a line each.
 pub(crate) fn table_description(alloc: Global, table: &Table) -> Result<String, AllocError>
     ensures { IfOk result (λ text. (rest : List ℕ) × (string_bytes text ≡ front_lines table.now.contents.material table.now.contents.kind (length (file_bytes table.now)) ++ rest)) }
@@ -31,13 +20,7 @@ pub(crate) fn table_description(alloc: Global, table: &Table) -> Result<String, 
         }
     }
     let front = front_lines(alloc, table.material(), table.kind(), file_len(table))?;
-    let described = Described {
-        index,
-        byte4: table.byte4(),
-        subs,
-        last: table.last().as_slice(),
-    };
-    let rest = other_lines(alloc, &described)?;
+    let rest = other_lines(alloc, index, table.byte4(), &subs, table.last().as_slice())?;
     format!(in alloc; "{front}{rest}")
 }
 
@@ -56,13 +39,7 @@ pub(crate) fn front_description(
     let index = table.index();
     let length = table.ending() + 16;
     let front = front_lines(alloc, index.material(), index.kind(), length)?;
-    let described = Described {
-        index,
-        byte4: table.byte4(),
-        subs,
-        last,
-    };
-    let rest = other_lines(alloc, &described)?;
+    let rest = other_lines(alloc, index, table.byte4(), &subs, last)?;
     format!(in alloc; "{front}{rest}")
 }
 
@@ -84,31 +61,31 @@ fn front_lines(
     format!(in alloc; "name {name}\nkind {kind}\nbytes {length}\n")
 }
 
-/// The lines after the file's length.
-fn other_lines(alloc: Global, table: &Described) -> Result<String, AllocError> {
+/// The lines after the file's length; the subtables are in file order, `last` are the file's last sixteen bytes.
+fn other_lines(
+    alloc: Global,
+    index: &TableIndex,
+    byte4: u8,
+    subs: &[&Sub],
+    last: &[u8],
+) -> Result<String, AllocError> {
     let mut text = String::new(alloc);
-    writeln!(text, "flags {}", table.byte4)?;
+    writeln!(text, "flags {byte4}")?;
     let letters = ["a", "b", "c", "d"];
-    'parts: for (part, letter) in table.index.parts().iter().zip(letters.iter()) {
+    'parts: for (part, letter) in index.parts().iter().zip(letters.iter()) {
         let order = hex::encode(alloc, part.order.as_slice())?;
         let men = hex::encode(alloc, part.men.as_slice())?;
         writeln!(text, "part {letter} order {order} men {men}")?;
     }
-    add_subtables(table, &mut text)?;
-    writeln!(text, "end {}", hex::encode(alloc, table.last)?)?;
-    Ok(text)
-}
-
-/// A line for each subtable, and one for each map after its part's first.
-fn add_subtables(table: &Described, text: &mut String) -> Result<(), AllocError> {
-    let index = table.index;
-    'subtables: for (slot, sub) in index.slots().iter().zip(table.subs.iter()) {
-        add_subtable(index.kind(), slot, sub, text)?;
+    // a map comes after its part's first subtable
+    'subtables: for (slot, sub) in index.slots().iter().zip(subs.iter()) {
+        add_subtable(index.kind(), slot, sub, &mut text)?;
         if slot.side == 0 {
-            add_map(index.maps(), slot.part, text)?;
+            add_map(index.maps(), slot.part, &mut text)?;
         }
     }
-    Ok(())
+    writeln!(text, "end {}", hex::encode(alloc, last)?)?;
+    Ok(text)
 }
 
 /// A subtable's line.

@@ -27,8 +27,6 @@ pub struct OpenedFront {
     pub front: FrontTable,
     /// The number of bytes that were read.
     pub read: u64,
-    /// The number of bytes of the file.
-    pub size: u64,
 }
 
 /// Opens the table of the request's name and kind by its front, from the first byte of a file of `size` bytes.
@@ -55,7 +53,7 @@ fn opened_front<F: Input>(
         Err(ReadFault::Device) => return Err(Stop::Device),
         Err(ReadFault::Memory) => return Err(Stop::Memory),
     };
-    Ok(OpenedFront { front, read, size })
+    Ok(OpenedFront { front, read })
 }
 
 /// Reads bytes after the front of `read` bytes; none if none are wanted.
@@ -93,11 +91,10 @@ fn value_by<S: FileSystem>(
     spot: Spot,
 ) -> Result<u16, Stop<FileFault>>
     requires below { IsSomeAnd (slot_in opened.now.front.index spot.part spot.side) (λ slot. spot.index < slot.size) }
-    requires room { opened.now.read ≤ opened.now.size }
-    requires size { opened.now.front.length ≡ opened.now.size }
-    ensures value { IfOk result (λ value. IsFetchedIn S.File.Input file opened.now.front opened.now.read opened.now.size (λ content t. IsDecodedAt t spot.part spot.side spot.index value)) }
-    ensures refused { (refusal : Refusal) → IsErrOf result (Stop.Refused refusal) → IsFetchedIn S.File.Input file opened.now.front opened.now.read opened.now.size (λ content t. IsBadBlockAt content t spot.part spot.side spot.index refusal) }
-    ensures failed { (fault : Fault) → IsErrOf result (Stop.Failed fault) → IsUnfetched S.File.Input file opened.now.front opened.now.read opened.now.size spot.part spot.side spot.index fault }
+    requires room { opened.now.read ≤ opened.now.front.length }
+    ensures value { IfOk result (λ value. IsFetchedIn S.File.Input file opened.now.front opened.now.read opened.now.front.length (λ content t. IsDecodedAt t spot.part spot.side spot.index value)) }
+    ensures refused { (refusal : Refusal) → IsErrOf result (Stop.Refused refusal) → IsFetchedIn S.File.Input file opened.now.front opened.now.read opened.now.front.length (λ content t. IsBadBlockAt content t spot.part spot.side spot.index refusal) }
+    ensures failed { (fault : Fault) → IsErrOf result (Stop.Failed fault) → IsUnfetched S.File.Input file opened.now.front opened.now.read opened.now.front.length spot.part spot.side spot.index fault }
 {
     let front = &opened.front;
     let located = front.locate(spot.part, spot.side, spot.index);
@@ -161,10 +158,9 @@ fn get_line<S: FileSystem>(
     request: &Request,
     index: u64,
 ) -> Result<String, Stop<FileFault>>
-    requires room { opened.now.read ≤ opened.now.size }
-    requires size { opened.now.front.length ≡ opened.now.size }
-    ensures stated { IfOk result (λ line. IsFetchedIn S.File.Input file opened.now.front opened.now.read opened.now.size (λ content t. IsLookUpAnswer (Action.Get index) request.now.part request.now.side content t (string_bytes line))) }
-    ensures refused { (refusal : Refusal) → IsErrOf result (Stop.Refused refusal) → IsFetchedIn S.File.Input file opened.now.front opened.now.read opened.now.size (λ content t. IsLookUpRefused (Action.Get index) request.now.part request.now.side content t refusal) }
+    requires room { opened.now.read ≤ opened.now.front.length }
+    ensures stated { IfOk result (λ line. IsFetchedIn S.File.Input file opened.now.front opened.now.read opened.now.front.length (λ content t. IsLookUpAnswer (Action.Get index) request.now.part request.now.side content t (string_bytes line))) }
+    ensures refused { (refusal : Refusal) → IsErrOf result (Stop.Refused refusal) → IsFetchedIn S.File.Input file opened.now.front opened.now.read opened.now.front.length (λ content t. IsLookUpRefused (Action.Get index) request.now.part request.now.side content t refusal) }
 {
     let spot = match requested_spot(&opened.front, request.part, request.side, index) {
         Ok(spot) => spot,
@@ -186,10 +182,9 @@ fn probe_line<S: FileSystem>(
     placement: &Placement,
     class: AskedClass,
 ) -> Result<String, Stop<FileFault>>
-    requires room { opened.now.read ≤ opened.now.size }
-    requires size { opened.now.front.length ≡ opened.now.size }
-    ensures stated { IfOk result (λ line. (part side : ℕ) → IsFetchedIn S.File.Input file opened.now.front opened.now.read opened.now.size (λ content t. IsLookUpAnswer (Action.Probe placement.now class) part side content t (string_bytes line))) }
-    ensures refused { (refusal : Refusal) → IsErrOf result (Stop.Refused refusal) → (part side : ℕ) → IsFetchedIn S.File.Input file opened.now.front opened.now.read opened.now.size (λ content t. IsLookUpRefused (Action.Probe placement.now class) part side content t refusal) }
+    requires room { opened.now.read ≤ opened.now.front.length }
+    ensures stated { IfOk result (λ line. (part side : ℕ) → IsFetchedIn S.File.Input file opened.now.front opened.now.read opened.now.front.length (λ content t. IsLookUpAnswer (Action.Probe placement.now class) part side content t (string_bytes line))) }
+    ensures refused { (refusal : Refusal) → IsErrOf result (Stop.Refused refusal) → (part side : ℕ) → IsFetchedIn S.File.Input file opened.now.front opened.now.read opened.now.front.length (λ content t. IsLookUpRefused (Action.Probe placement.now class) part side content t refusal) }
 {
     let spot = match locate(opened.front.index(), &PlacedMen::of(placement)) {
         Ok(spot) => spot,
@@ -209,9 +204,8 @@ fn show_lines<S: FileSystem>(
     file: S::File,
     opened: &OpenedFront,
 ) -> Result<String, Stop<FileFault>>
-    requires room { opened.now.read ≤ opened.now.size }
-    requires size { opened.now.front.length ≡ opened.now.size }
-    ensures stated { IfOk result (λ text. (part side : ℕ) → IsFetchedIn S.File.Input file opened.now.front opened.now.read opened.now.size (λ content t. IsLookUpAnswer Action.Show part side content t (string_bytes text))) }
+    requires room { opened.now.read ≤ opened.now.front.length }
+    ensures stated { IfOk result (λ text. (part side : ℕ) → IsFetchedIn S.File.Input file opened.now.front opened.now.read opened.now.front.length (λ content t. IsLookUpAnswer Action.Show part side content t (string_bytes text))) }
     ensures answered { (refusal : Refusal) → IsErrOf result (Stop.Refused refusal) → ⊥ }
 {
     let front = &opened.front;
@@ -234,10 +228,9 @@ fn look_up_line<S: FileSystem>(
     request: &Request,
 ) -> Result<String, Stop<FileFault>>
     requires looks { IsLookUp request.now.action }
-    requires room { opened.now.read ≤ opened.now.size }
-    requires size { opened.now.front.length ≡ opened.now.size }
-    ensures stated { IfOk result (λ line. IsFetchedIn S.File.Input file opened.now.front opened.now.read opened.now.size (λ content t. IsLookUpAnswer request.now.action request.now.part request.now.side content t (string_bytes line))) }
-    ensures refused { (refusal : Refusal) → IsErrOf result (Stop.Refused refusal) → IsFetchedIn S.File.Input file opened.now.front opened.now.read opened.now.size (λ content t. IsLookUpRefused request.now.action request.now.part request.now.side content t refusal) }
+    requires room { opened.now.read ≤ opened.now.front.length }
+    ensures stated { IfOk result (λ line. IsFetchedIn S.File.Input file opened.now.front opened.now.read opened.now.front.length (λ content t. IsLookUpAnswer request.now.action request.now.part request.now.side content t (string_bytes line))) }
+    ensures refused { (refusal : Refusal) → IsErrOf result (Stop.Refused refusal) → IsFetchedIn S.File.Input file opened.now.front opened.now.read opened.now.front.length (λ content t. IsLookUpRefused request.now.action request.now.part request.now.side content t refusal) }
 {
     match &request.action {
         Action::Show => show_lines(alloc, system, file, opened),

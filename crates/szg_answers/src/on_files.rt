@@ -451,36 +451,26 @@ where
     ensures { EndsCheck result (IsAskedReport S.content S.failures S.File.Input W.Output (asked_of job.entry) system.old system.new writer.old writer.new)
         (IsTargetOf (asked_of job.entry)) (HasFailed (W.failures writer.old) (W.failures writer.new) (W.interrupted writer.new)) (writer.new ≡ writer.old) }
 {
-    let CheckJob {
-        naming,
-        allow_trailing,
-        format,
-        quiet,
-        shard,
-        lists,
-        logs,
-        manifest,
-        paths,
-    } = job;
     let mut sums = Sums::new(alloc);
-    if let Err(failure) = read_lists(alloc, machine, &lists, &mut sums) {
+    if let Err(failure) = read_lists(alloc, machine, &job.lists, &mut sums) {
         return unread_list(failure, LineKind::Sum);
     }
     let mut log = Log::new(alloc);
-    if let Err(failure) = read_lists(alloc, machine, &logs, &mut log) {
+    if let Err(failure) = read_lists(alloc, machine, &job.logs, &mut log) {
         return unread_list(failure, LineKind::Record);
     }
     let options = CheckOptions {
-        naming,
-        allow_trailing,
-        format,
-        quiet,
-        sums: given(&lists, &sums),
-        shard,
-        log: given(&logs, &log),
-        has_manifest: manifest.is_some(),
+        naming: job.naming,
+        allow_trailing: job.allow_trailing,
+        format: job.format,
+        quiet: job.quiet,
+        sums: given(&job.lists, &sums),
+        shard: job.shard,
+        log: given(&job.logs, &log),
+        has_manifest: job.manifest.is_some(),
     };
-    check_by(alloc, system, machine, options, manifest, &paths, writer)
+    let paths = job.paths.as_slice();
+    check_by(alloc, system, machine, options, job.manifest, paths, writer)
 }
 
 /// Runs a command line: on the files of a system where it names these, else on the reader. Of the machine it writes files,

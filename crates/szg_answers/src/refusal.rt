@@ -1,4 +1,4 @@
-use std::alloc::{AllocError, AllocFailed};
+use std::alloc::AllocError;
 use std::convert::Infallible;
 use szg_build::{BuildFault, DumpFault};
 use szg_file::{MapFault, Reason};
@@ -61,17 +61,6 @@ impl<F> From<AllocError> for Stop<F> {
     ghost from_gives = { λ _ stop. stop ≡ Memory };
 
     fn from(_failed: AllocError) -> Stop<F> {
-        Stop::Memory
-    }
-}
-
-impl<F, T: Drop> From<AllocFailed<T>> for Stop<F> {
-    ghost use Rattle.std.specs.Prelude.{◌≡◌};
-    ghost use Rattle.szg_answers.specs.declared.refusal.Stop.TheVariants.{Memory};
-
-    ghost from_gives = { λ _ stop. stop ≡ Memory };
-
-    fn from(_failed: AllocFailed<T>) -> Stop<F> {
         Stop::Memory
     }
 }

@@ -121,23 +121,15 @@ impl<W: Output> ValueSink<W> for LineSink {
     }
 
     fn put(&mut self, values: &[u16], out: &mut W) -> Result<(), DeviceFault> {
-        match add_lines(&mut self.text, values, out) {
-            Ok(()) => Ok(()),
-            Err(stop) => {
-                self.failed = matches!(stop, Stop::Device);
-                Err(DeviceFault)
-            }
-        }
+        let added = add_lines(&mut self.text, values, out);
+        self.failed = matches!(added, Err(Stop::Device));
+        added.map_err(|_| DeviceFault)
     }
 
     fn put_same(&mut self, value: u16, count: u64, out: &mut W) -> Result<(), DeviceFault> {
-        match add_same(&mut self.text, value, count, out) {
-            Ok(()) => Ok(()),
-            Err(stop) => {
-                self.failed = matches!(stop, Stop::Device);
-                Err(DeviceFault)
-            }
-        }
+        let added = add_same(&mut self.text, value, count, out);
+        self.failed = matches!(added, Err(Stop::Device));
+        added.map_err(|_| DeviceFault)
     }
 }
 

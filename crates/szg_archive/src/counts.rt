@@ -2,7 +2,7 @@
 use crate::file_verdict::FileVerdict;
 
 /// The numbers of files that were good, refused, not read, or left out, and of paths that were skipped.
-#[derive(Clone, Copy)]
+#[derive(Clone, Copy, Default)]
 pub struct CheckCounts {
     pub good: u64,
     pub refused: u64,

@@ -63,10 +63,7 @@ pub fn kind_at<R: Files>(files: &R, path: &str) -> Option<Kind> {
 /// with, up to its end or a dot, or by its first four bytes.
 fn looks_like_table<R: Files>(files: &R, path: &str) -> bool {
     let name = Path::new(path).file_name().unwrap_or("");
-    let stem = match name.split_once('.') {
-        Some((stem, _)) => stem,
-        None => name,
-    };
+    let stem = name.split_once('.').map_or(name, |(stem, _)| stem);
     let has_ending = name.as_bytes().windows(5).any(|window| {
         window.eq_ignore_ascii_case(b".rtbw") || window.eq_ignore_ascii_case(b".rtbz")
     });

@@ -1,9 +1,10 @@
 //! An input whose bytes are hashed while they are read.
 
+use sha2::Digest;
 use std::io::Error;
 use szg_files::Reasons;
 use szg_io::{Input, IoFault};
-use szg_sums::{Hasher, Sha256, sha256_of};
+use szg_sums::{Hasher, Sha256};
 
 /// An input, and the state of the digest of the bytes that were read from it.
 #[derive(Drop)]
@@ -55,7 +56,7 @@ impl<F: Input + Drop> Hashed<F, Sha256> {
     pub(crate) fn digest(self) -> [u8; 32]
         ensures { result ≡ sha256 (F.moved (input_of self)) }
     {
-        sha256_of(self.hasher)
+        self.hasher.finalize()
     }
 }
 

@@ -27,10 +27,7 @@ pub fn read_lists<'a, R: Files, L: FromLines>(
 ) -> Result<(), ListFailure<'a>> {
     'lists: for list in lists {
         let path: &'a str = list;
-        let text = match text_at(alloc, files, path) {
-            Ok(text) => text,
-            Err(fault) => return Err(ListFailure::File(path, fault)),
-        };
+        let text = text_at(alloc, files, path).map_err(|fault| ListFailure::File(path, fault))?;
         match read.add_lines(alloc, &text) {
             Ok(None) => {}
             Ok(Some(line)) => return Err(ListFailure::Line(path, line)),

@@ -90,17 +90,14 @@ fn past(path: &[u8], known: Option<FileState>, entry: &LogEntry) -> Option<FileS
 
 /// Returns the record in a line. None if it has none.
 fn entry_in(alloc: Global, line: &[u8]) -> Result<Option<LogEntry>, AllocError> {
-    let (path, good) = match line.strip_prefix(b"{\"path\":\"".as_slice()) {
-        Some(rest) => match json_parts(rest) {
-            Some((text, good)) => (unescaped(alloc, text, b"\\u00".as_slice())?, good),
-            None => return Ok(None),
-        },
-        None => match tsv_parts(line) {
-            Some((text, good)) => (unescaped(alloc, text, b"\\x".as_slice())?, good),
-            None => return Ok(None),
-        },
+    let (parts, mark) = match line.strip_prefix(b"{\"path\":\"".as_slice()) {
+        Some(rest) => (json_parts(rest), b"\\u00".as_slice()),
+        None => (tsv_parts(line), b"\\x".as_slice()),
     };
-    let path = normal(alloc, &path)?;
+    let Some((text, good)) = parts else {
+        return Ok(None);
+    };
+    let path = normal(alloc, &unescaped(alloc, text, mark)?)?;
     Ok(Some(LogEntry { path, good }))
 }
 
@@ -122,13 +119,7 @@ fn state_in(word: &[u8], reason: &[u8], bytes: &[u8], modified: &[u8]) -> Option
 
 /// Returns a text up to a mark, and what follows the mark.
 fn split_at_mark<'a>(text: &'a [u8], mark: &[u8]) -> Option<(&'a [u8], &'a [u8])> {
-    'starts: for at in 0..text.len() {
-        let (before, rest) = text.split_at(at);
-        if let Some(after) = rest.strip_prefix(mark) {
-            return Some((before, after));
-        }
-    }
-    None
+    (0..text.len()).find_map(|at| Some((text.get(..at)?, text.get(at..)?.strip_prefix(mark)?)))
 }
 
 /// Returns the escaped path of a TSV record, and the state in which the file was good.

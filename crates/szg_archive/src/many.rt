@@ -262,13 +262,7 @@ pub fn check_entries<S: FileSystem, D: Files + Clock, W: Output>(
     ensures report { IfOk result (λ report. IfSome report (λ r. IsReportOn S.content S.failures S.File.Input W.Output options.entry (map listed_of entries.now) system.old system.new writer.old writer.new r.counts r.manifest.items)) }
     ensures device { IfOk result (λ report. IfNone report (HasFailed (W.failures writer.old) (W.failures writer.new) (W.interrupted writer.new))) }
 {
-    let mut tally = CheckCounts {
-        good: 0,
-        refused: 0,
-        unread: 0,
-        kept: 0,
-        skipped: 0,
-    };
+    let mut tally = CheckCounts::default();
     let mut manifest = Vec::new(alloc);
     'entries: for entry in entries {
         let reported = report_entry(alloc, system, machine, options, entry)?;

@@ -1,7 +1,7 @@
 //! The records of a report for programs.
 ghost use Rattle.std.specs.Prelude.{◌≡◌, ◌+◌, ◌++◌, ◌^◌, ◌<◌, IfOk, OnOk, flat_map, option_map, string_bytes};
 ghost use Rattle.std.specs.Duration.{as_nanos};
-ghost use Rattle.szg_archive.specs.Records.{IsReasonField, IsReportLine, bytes_field, json_others, json_reason, json_summary, json_text, json_times, listed_byte, listed_name, number_or, offset_field, quoted, seconds_or, sum_line, sum_mark, tsv_reason, tsv_text, verdict_word};
+ghost use Rattle.szg_archive.specs.Records.{IsJsonRecord, IsReasonField, IsReportLine, IsTsvRecord, bytes_field, json_others, json_reason, json_summary, json_times, listed_byte, listed_name, number_or, offset_field, quoted, seconds_or, sum_line, sum_mark, tsv_reason, verdict_word};
 
 use crate::counts::CheckCounts;
 use crate::file_verdict::FileVerdict;
@@ -140,33 +140,39 @@ fn json_reason(alloc: Global, reason: &Option<String>) -> Result<Vec<u8>, AllocE
     }
 }
 
-/// A record's fields after the path.
-#[derive(Drop)]
-struct RecordTexts {
-    word: &'static str,
-    bytes: Option<u64>,
-    reason: Option<String>,
-    offset: Option<u64>,
-    elapsed: Option<Duration>,
-    modified: Option<u64>,
+/// When and how long a file was checked.
+#[derive(Clone, Copy)]
+pub(crate) struct Timing {
+    pub elapsed: Option<Duration>,
+    /// The nanoseconds from 1970 to the file's last change.
+    pub modified: Option<u64>,
 }
 
-/// The fields of a TSV record in a line, separated by tabs.
-fn tsv_text(alloc: Global, path: Vec<u8>, fields: &RecordTexts) -> Result<Vec<u8>, AllocError>
-    ensures { IfOk result (λ line. line.items ≡ tsv_text path.items fields.now.word.now fields.now.bytes (option_map (λ text. string_bytes text) fields.now.reason) fields.now.offset (option_map (λ d. as_nanos d) fields.now.elapsed) fields.now.modified) }
+/// Returns the record of a file in a line, its fields separated by tabs.
+fn tsv_record(
+    alloc: Global,
+    allow_trailing: bool,
+    path: &str,
+    verdict: &FileVerdict,
+    timing: Timing,
+) -> Result<Vec<u8>, AllocError>
+    ensures { IfOk result (λ line. IsTsvRecord allow_trailing path.now verdict.now line.items) }
 {
     let tab = "\t".as_bytes();
-    let bytes = number_or(alloc, fields.bytes, "")?;
-    let reason = tsv_reason(alloc, &fields.reason)?;
-    let offset = number_or(alloc, fields.offset, "")?;
-    let seconds = seconds_or(alloc, &fields.elapsed, "")?;
-    let modified = number_or(alloc, fields.modified, "")?;
+    let path = path_text(alloc, verdict, path)?;
+    let word = verdict_word(verdict, allow_trailing);
+    let bytes = number_or(alloc, bytes_field(verdict), "")?;
+    let reason = reason_field(alloc, verdict)?;
+    let reason = tsv_reason(alloc, &reason)?;
+    let offset = number_or(alloc, offset_field(verdict), "")?;
+    let seconds = seconds_or(alloc, &timing.elapsed, "")?;
+    let modified = number_or(alloc, timing.modified, "")?;
     joined(
         alloc,
         &[
             &path,
             tab,
-            fields.word.as_bytes(),
+            word.as_bytes(),
             tab,
             bytes.as_bytes(),
             tab,
@@ -183,11 +189,11 @@ fn tsv_text(alloc: Global, path: Vec<u8>, fields: &RecordTexts) -> Result<Vec<u8
 }
 
 /// The times in a JSON object, and its end.
-fn json_times(alloc: Global, fields: &RecordTexts) -> Result<Vec<u8>, AllocError>
-    ensures { IfOk result (λ text. text.items ≡ json_times (option_map (λ d. as_nanos d) fields.now.elapsed) fields.now.modified) }
+fn json_times(alloc: Global, timing: Timing) -> Result<Vec<u8>, AllocError>
+    ensures { IfOk result (λ text. text.items ≡ json_times (option_map (λ d. as_nanos d) timing.elapsed) timing.modified) }
 {
-    let seconds = seconds_or(alloc, &fields.elapsed, "null")?;
-    let modified = number_or(alloc, fields.modified, "null")?;
+    let seconds = seconds_or(alloc, &timing.elapsed, "null")?;
+    let modified = number_or(alloc, timing.modified, "null")?;
     joined(
         alloc,
         &[
@@ -200,22 +206,30 @@ fn json_times(alloc: Global, fields: &RecordTexts) -> Result<Vec<u8>, AllocError
     )
 }
 
-/// The fields of a record as a JSON object in a line.
-fn json_text(alloc: Global, path: &str, fields: &RecordTexts) -> Result<Vec<u8>, AllocError>
-    ensures { IfOk result (λ line. line.items ≡ json_text path.now fields.now.word.now fields.now.bytes (option_map (λ text. string_bytes text) fields.now.reason) fields.now.offset (option_map (λ d. as_nanos d) fields.now.elapsed) fields.now.modified) }
+/// Returns the record of a file as a JSON object in a line.
+fn json_record(
+    alloc: Global,
+    allow_trailing: bool,
+    path: &str,
+    verdict: &FileVerdict,
+    timing: Timing,
+) -> Result<Vec<u8>, AllocError>
+    ensures { IfOk result (λ line. IsJsonRecord allow_trailing path.now verdict.now line.items) }
 {
     let path = quoted(alloc, path)?;
-    let bytes = number_or(alloc, fields.bytes, "null")?;
-    let reason = json_reason(alloc, &fields.reason)?;
-    let offset = number_or(alloc, fields.offset, "null")?;
-    let times = json_times(alloc, fields)?;
+    let word = verdict_word(verdict, allow_trailing);
+    let bytes = number_or(alloc, bytes_field(verdict), "null")?;
+    let reason = reason_field(alloc, verdict)?;
+    let reason = json_reason(alloc, &reason)?;
+    let offset = number_or(alloc, offset_field(verdict), "null")?;
+    let times = json_times(alloc, timing)?;
     joined(
         alloc,
         &[
             "{\"path\":".as_bytes(),
             &path,
             ",\"verdict\":\"".as_bytes(),
-            fields.word.as_bytes(),
+            word.as_bytes(),
             "\",\"bytes\":".as_bytes(),
             bytes.as_bytes(),
             ",\"reason\":".as_bytes(),
@@ -225,36 +239,6 @@ fn json_text(alloc: Global, path: &str, fields: &RecordTexts) -> Result<Vec<u8>,
             &times,
         ],
     )
-}
-
-/// When and how long a file was checked.
-#[derive(Clone, Copy)]
-pub(crate) struct Timing {
-    pub elapsed: Option<Duration>,
-    /// The nanoseconds from 1970 to the file's last change.
-    pub modified: Option<u64>,
-}
-
-/// The fields of a file: what its check says, the time that the check took, and when the file changed.
-fn fields_of(
-    alloc: Global,
-    verdict: &FileVerdict,
-    allow_trailing: bool,
-    timing: Timing,
-) -> Result<RecordTexts, AllocError>
-    ensures word { IfOk result (λ fields. fields.word.now ≡ verdict_word allow_trailing verdict.now) }
-    ensures bytes { IfOk result (λ fields. fields.bytes ≡ bytes_field verdict.now) }
-    ensures reason { IfOk result (λ fields. IsReasonField verdict.now (option_map (λ text. string_bytes text) fields.reason)) }
-    ensures offset { IfOk result (λ fields. fields.offset ≡ offset_field verdict.now) }
-{
-    Ok(RecordTexts {
-        word: verdict_word(verdict, allow_trailing),
-        bytes: bytes_field(verdict),
-        reason: reason_field(alloc, verdict)?,
-        offset: offset_field(verdict),
-        elapsed: timing.elapsed,
-        modified: timing.modified,
-    })
 }
 
 /// What a report has of a file: its line; or its record, which has its path, what its check says, the seconds that the check
@@ -271,14 +255,8 @@ pub(crate) fn report_line(
 {
     match format {
         ReportFormat::Text => verdict_line(alloc, path, verdict, allow_trailing),
-        ReportFormat::Tsv => {
-            let fields = fields_of(alloc, verdict, allow_trailing, timing)?;
-            tsv_text(alloc, path_text(alloc, verdict, path)?, &fields)
-        }
-        ReportFormat::Json => {
-            let fields = fields_of(alloc, verdict, allow_trailing, timing)?;
-            json_text(alloc, path, &fields)
-        }
+        ReportFormat::Tsv => tsv_record(alloc, allow_trailing, path, verdict, timing),
+        ReportFormat::Json => json_record(alloc, allow_trailing, path, verdict, timing),
     }
 }
 

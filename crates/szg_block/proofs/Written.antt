@@ -1,6 +1,6 @@
 -- A list whose parts are written one after another.
-use Rattle.std.proofs.Common.{ℕ, ◌≡◌, ◌+◌, ◌-◌, ◌≤◌, min, List, [], ◌++◌, length, take, drop, ap, sym, ◌∙◌, arith, append-nil, append_assoc, length-take, length-append}
-use Rattle.std.proofs.lemmas.List.{take_at, drop_all, length-drop}
+use Rattle.std.proofs.Common.{ℕ, ◌≡◌, ◌+◌, ◌-◌, ◌≤◌, min, List, [], ◌++◌, length, take, drop, replicate, ap, sym, ◌∙◌, arith, append-nil, append_assoc, length-take, length-append}
+use Rattle.std.proofs.lemmas.List.{take_at, take_all, drop_all, length-drop}
 use Rattle.szg_block.proofs.Joined.{take-append_both}
 use borrow.Rule.Slice.PartMut.{put_mid, post_of}
 
@@ -44,3 +44,23 @@ more_written at k values xs ys rest there are first =
 -- the room for k items
 pub room_is : (at k : ℕ) (values : List ℕ) → at + k ≤ length values → length (take (at + k - at) (drop at values)) ≡ k
 room_is at k values within = omega (arith, length-take (at + k - at) (drop at values), length-drop at values)
+
+-- ---- the items after the first `at`, up to the end
+
+pub rest_room : (at count : ℕ) (values : List ℕ) → length values ≡ at + count → length (take (length values - at) (drop at values)) ≡ count
+rest_room at count values long = omega (arith, length-take (length values - at) (drop at values), length-drop at values)
+
+-- a list that was made longer begins with what it had
+pub kept_first : (before old : List ℕ) (at count k : ℕ) → before ≡ take (at + count) old ++ replicate k 0 → length old ≡ at → take at before ≡ old
+kept_first before old at count k is long =
+    let all : take (at + count) old ≡ old = take_all (at + count) old (omega (arith, long)) in
+    ap (λ u. take at u) (is ∙ ap (λ u. u ++ replicate k 0) all) ∙ take_at old (replicate k 0) at long
+
+pub rest_written : (before new more old ys : List ℕ) (at count len : ℕ) → length before ≡ at + count → length new ≡ count → len ≡ at + count → take at before ≡ old → new ≡ ys →
+    take len ((take at before ++ (new ++ drop (length before - at) (drop at before))) ++ more) ≡ old ++ ys
+rest_written before new more old ys at count len long sized whole kept is =
+    let none : drop (length before - at) (drop at before) ≡ [] = drop_all (length before - at) (drop at before) (omega (arith, length-drop at before)) in
+    let all : take at before ++ (new ++ drop (length before - at) (drop at before)) ≡ old ++ ys =
+    ap (λ u. take at before ++ (new ++ u)) none ∙ ap (λ u. take at before ++ u) (append-nil new) ∙ ap (λ u. u ++ new) kept ∙ ap (λ u. old ++ u) is in
+    ap (λ u. take len (u ++ more)) all
+    ∙ take_at (old ++ ys) more len (omega (arith, long, sized, whole, length-append old ys, ap (λ u. length u) kept, length-take at before, ap (λ u. length u) is))

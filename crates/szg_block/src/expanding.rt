@@ -102,8 +102,7 @@ impl<'a> Sound<'a, Whole<'a>> {
     pub fn values(&self, alloc: Global) -> Result<Vec<u16>, AllocError>
         ensures { IfOk result (λ values. values.items ≡ values_shown self.now) }
     {
-        let mut values = Vec::with_capacity(alloc, self.size as usize)?;
-        values.resize(self.size as usize, 0)?;
+        let mut values = vec![in alloc; 0; self.size as usize]?;
         self.write_values(&mut values);
         Ok(values)
     }

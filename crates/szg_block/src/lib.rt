@@ -25,10 +25,10 @@ pub use probing::{Steps, ValueLocation, locate_by, locate_value, look_up};
 pub use source::{Image, Source};
 use sparse::{first_bad_entry, middle_of_span};
 use std::alloc::AllocError;
-use szg_code::Code;
+use szg_code::{Bits, Code};
 use szg_pairs::Dict;
 pub use watch::Watch;
-use words::{push_values, spells};
+use words::{spells, write_values};
 
 mod block_value;
 mod blocks;
@@ -207,7 +207,8 @@ pub fn check_index(sub: &Sub, size: u64) -> Result<(), SubFault>
 /// before the block. A missing length counts as 0.
 fn needed_in(sub: &Sub, size: u64, n: u32, before: u64) -> u64
     requires before { IsSomeAnd (layout_of sub.now) (λ layout. before ≡ start layout.lengths n) }
-    ensures { IsSomeAnd (layout_of sub.now) (λ layout. result ≡ needed layout.lengths size n) }
+    ensures needed { IsSomeAnd (layout_of sub.now) (λ layout. result ≡ needed layout.lengths size n) }
+    ensures few { result ≤ 65536 }
 {
     let Sub::Pairs { lengths, .. } = sub else {
         unreachable!()
@@ -307,7 +308,7 @@ pub fn check_block_from(
     };
     prove_eq!(code.symbols(), dict.symbols());
     let needed = needed_in(sub, size, n, before);
-    if spells(code, dict, block, needed) {
+    if spells(code, dict, Bits::new(block), needed) {
         Ok(())
     } else {
         Err(SubFault::Word(n))
@@ -335,8 +336,11 @@ pub fn decode_block(
         unreachable!()
     };
     prove_eq!(code.symbols(), dict.symbols());
-    let needed = needed_in(sub, size, n, before);
-    Ok(push_values(code, dict, block, needed, values)?)
+    let needed = needed_in(sub, size, n, before) as usize;
+    let first = values.len();
+    values.resize(first + needed, 0)?;
+    write_values(code, dict, block, &mut values[first..]);
+    Ok(())
 }
 
 /// Checks a subtable with `size` values. Accepts exactly the sound subtables.

@@ -1,31 +1,20 @@
 //! The words of one block, and the values of their symbols.
 
-ghost use Rattle.std.specs.Prelude.{◌≡◌, ◌<◌, ◌≤◌, ◌+◌, ◌-◌, ◌↔◌, ◌++◌, ◌^◌, IsTrue, IfNone, IfSome, OnOk, length, take, slice_get, Some};
+ghost use Rattle.std.specs.Prelude.{◌≡◌, ◌<◌, ◌≤◌, ◌+◌, ◌-◌, ◌↔◌, ◌^◌, IsTrue, IfNone, IfSome, length, take, slice_get, Some};
 ghost use Rattle.szg_code.specs.Acceptance.{IsCode};
 ghost use Rattle.szg_code.specs.Bits.{bits};
+ghost use Rattle.szg_code.specs.Least.{HasBytesAbove};
 ghost use Rattle.szg_pairs.specs.Dictionary.{IsDictionary};
 ghost use Rattle.szg_pairs.specs.Expansion.{expansion_of};
 ghost use Rattle.szg_code.specs.Cursor.{TakesWords};
 ghost use Rattle.szg_code.specs.NextWords.{symbols_of};
 ghost use Rattle.szg_code.specs.Spelling.{BeginsWithNoWord};
+ghost use Rattle.szg_block.specs.Reached.{IsReached};
 ghost use Rattle.szg_block.specs.Spelled.{AreBelow, values_of, values_spelled, word_at, pairs_above};
 
-use std::alloc::AllocError;
-use szg_code::{
-    Bits, Code, EndlessBits, NextWords, next_endless, next_word, next_word_if, next_words,
-};
-use szg_pairs::Dict;
+use szg_code::{Bits, Code, EndlessBits, NextWords, next_endless, next_word_if, next_words};
 use szg_pairs::entry::{is_leaf, left, right};
-
-/// Returns whether a block's own bits spell at least `needed` values.
-pub fn spells(code: &Code, dict: &Dict, block: &[u8], needed: u64) -> bool
-    requires accepted { IsCode code.now }
-    requires symbols { code.now.symbols ≡ length dict.now }
-    requires size { length block.now ≤ 2 ^ 60 }
-    ensures { IsTrue result ↔ (needed ≤ length (values_spelled code.now dict.now (bits block.now))) }
-{
-    spells_on(code, dict, Bits::new(block), needed)
-}
+use szg_pairs::{Descent, Dict};
 
 /// Returns the number of values of one or two words.
 #[inline(always)]
@@ -74,13 +63,15 @@ struct Reached<'a> {
 }
 
 /// Decodes one word, or if `TWO`, one or two; moves the reader past what it decoded, and returns the symbols. None if the
-/// bits left do not begin with a word. A single word is decoded as `next_endless` does.
+/// bits left do not begin with a word. A single word is decoded as `next_endless` does, with the code's `bytes_above`.
 #[inline(always)]
-fn step<const TWO: bool, const TABLE: bool>(
+fn step<const TWO: bool, const TABLE: bool, const BYTES: bool>(
     code: &Code,
+    above: u64,
     words: &mut EndlessBits,
 ) -> Option<NextWords>
     requires accepted { IsCode code.now }
+    requires above { HasBytesAbove code.now above }
     ensures there { IfSome result (λ taken. AreBelow code.now.symbols (symbols_of taken)) }
     ensures found { IfSome result (λ taken. words.new.past ≡ 0 → (words.old.past ≡ 0) × TakesWords code.now words.old.cursor words.new.cursor (symbols_of taken)) }
     ensures past { IfSome result (λ _. 0 < words.new.past → BeginsWithNoWord code.now words.old.cursor.left) }
@@ -92,7 +83,7 @@ fn step<const TWO: bool, const TABLE: bool>(
         *words = bits.endless();
         return Some(taken);
     }
-    match next_endless::<TABLE>(code, words) {
+    match next_endless::<TABLE, BYTES>(code, above, words) {
         Some(symbol) => Some(NextWords::One(symbol)),
         None => None,
     }
@@ -101,26 +92,22 @@ fn step<const TWO: bool, const TABLE: bool>(
 /// Decodes words up to those that contain the value at `index`. None if the bits left spell too few values. Whether the last
 /// word is within the bytes is asked once, after it.
 #[inline(always)]
-fn reach_by<'a, const TWO: bool, const TABLE: bool>(
+fn reach_by<'a, const TWO: bool, const TABLE: bool, const BYTES: bool>(
     code: &Code,
+    above: u64,
     dict: &Dict,
     left: Bits<'a>,
     index: u64,
 ) -> Option<Reached<'a>>
     requires accepted { IsCode code.now }
+    requires above { HasBytesAbove code.now above }
     requires symbols { code.now.symbols ≡ length dict.now }
-    ensures there { IfSome result (λ reached. AreBelow (length dict.now) (symbols_of reached.words)) }
-    ensures count { IfSome result (λ reached. reached.count ≡ length (values_of dict.now (symbols_of reached.words))) }
-    ensures few { IfSome result (λ reached. reached.count ≤ 512) }
-    ensures within { IfSome result (λ reached. reached.index < reached.count) }
-    ensures at_most { IfSome result (λ reached. reached.index ≤ index) }
-    ensures value { IfSome result (λ reached. slice_get (values_of dict.now (symbols_of reached.words)) reached.index ≡ slice_get (values_spelled code.now dict.now left.entry.left) index) }
-    ensures spelled { IfSome result (λ reached. length (values_spelled code.now dict.now left.entry.left) ≡ (index - reached.index) + reached.count + length (values_spelled code.now dict.now reached.left.left)) }
+    ensures found { IfSome result (IsReached code.now dict.now left.entry.left index) }
     ensures none { IfNone result (length (values_spelled code.now dict.now left.entry.left) ≤ index) }
 {
     let mut left = left.endless();
     let mut ahead = index;
-    while let Some(words) = step::<TWO, TABLE>(code, &mut left) {
+    while let Some(words) = step::<TWO, TABLE, BYTES>(code, above, &mut left) {
         let count = count_of(dict, words);
         if ahead < count {
             let left = left.within()?;
@@ -141,27 +128,24 @@ fn reach_by<'a, const TWO: bool, const TABLE: bool>(
 fn reach<'a>(code: &Code, dict: &Dict, left: Bits<'a>, index: u64) -> Option<Reached<'a>>
     requires accepted { IsCode code.now }
     requires symbols { code.now.symbols ≡ length dict.now }
-    ensures there { IfSome result (λ reached. AreBelow (length dict.now) (symbols_of reached.words)) }
-    ensures count { IfSome result (λ reached. reached.count ≡ length (values_of dict.now (symbols_of reached.words))) }
-    ensures few { IfSome result (λ reached. reached.count ≤ 512) }
-    ensures within { IfSome result (λ reached. reached.index < reached.count) }
-    ensures at_most { IfSome result (λ reached. reached.index ≤ index) }
-    ensures value { IfSome result (λ reached. slice_get (values_of dict.now (symbols_of reached.words)) reached.index ≡ slice_get (values_spelled code.now dict.now left.entry.left) index) }
-    ensures spelled { IfSome result (λ reached. length (values_spelled code.now dict.now left.entry.left) ≡ (index - reached.index) + reached.count + length (values_spelled code.now dict.now reached.left.left)) }
+    ensures found { IfSome result (IsReached code.now dict.now left.entry.left index) }
     ensures none { IfNone result (length (values_spelled code.now dict.now left.entry.left) ≤ index) }
 {
-    if code.is_read_word_by_word() {
-        reach_by::<false, false>(code, dict, left, index)
+    let above = code.bytes_above();
+    if above < u64::MAX {
+        reach_by::<false, false, true>(code, above, dict, left, index)
+    } else if code.is_read_word_by_word() {
+        reach_by::<false, false, false>(code, above, dict, left, index)
     } else if code.has_two_words() {
-        reach_by::<true, true>(code, dict, left, index)
+        reach_by::<true, true, false>(code, above, dict, left, index)
     } else {
-        reach_by::<false, true>(code, dict, left, index)
+        reach_by::<false, true, false>(code, above, dict, left, index)
     }
 }
 
 /// Returns whether the bits left spell `needed` values or more.
 #[inline(always)]
-fn spells_on(code: &Code, dict: &Dict, left: Bits, needed: u64) -> bool
+pub(crate) fn spells(code: &Code, dict: &Dict, left: Bits, needed: u64) -> bool
     requires accepted { IsCode code.now }
     requires symbols { code.now.symbols ≡ length dict.now }
     ensures { IsTrue result ↔ (needed ≤ length (values_spelled code.now dict.now left.entry.left)) }
@@ -189,7 +173,7 @@ pub(crate) fn find_verified(
     let reached = reach(code, dict, Bits::new(block), index)?;
     let before = index - reached.index;
     let missing = (needed - before).saturating_sub(reached.count);
-    if !spells_on(code, dict, reached.left, missing) {
+    if !spells(code, dict, reached.left, missing) {
         return None;
     }
     Some(value_in(dict, reached.words, reached.index as u16))
@@ -216,57 +200,23 @@ pub fn value_at(code: &Code, dict: &Dict, block: &[u8], index: u64) -> u16
     requires within { index < length (values_spelled code.now dict.now (bits block.now)) }
     ensures { slice_get (values_spelled code.now dict.now (bits block.now)) index ≡ Some result }
 {
-    if code.is_read_word_by_word() {
-        return value_by_words(code, dict, Bits::new(block), index);
-    }
     let Some(reached) = reach(code, dict, Bits::new(block), index) else {
         unreachable!()
     };
     value_in(dict, reached.words, reached.index as u16)
 }
 
-/// Returns the value at `index` among those that the remaining bits decode to. Decodes word by word. The bits must
-/// spell more than `index` values.
-#[inline(always)]
-fn value_by_words(code: &Code, dict: &Dict, left: Bits, index: u64) -> u16
-    requires accepted { IsCode code.now }
-    requires symbols { code.now.symbols ≡ length dict.now }
-    requires within { index < length (values_spelled code.now dict.now left.left) }
-    ensures { slice_get (values_spelled code.now dict.now left.entry.left) index ≡ Some result }
-{
-    let mut words = left;
-    let mut ahead = index;
-    'words: loop {
-        let symbol = next_word(code, &mut words);
-        let count = u64::from(dict.len(symbol));
-        if ahead < count {
-            return dict.value_at(symbol, ahead as u16);
-        }
-        ahead -= count;
-    }
-}
-
-/// A value that was found in a block, and the steps that led to it.
-#[derive(Clone, Copy)]
-pub struct Found {
-    pub value: u16,
-    /// The number of words read, including the word that contains the value.
-    pub words: u64,
-    /// The number of pairs descended through, from the word's symbol to the value's leaf.
-    pub pairs: u16,
-}
-
-/// Decodes the value at `index` in a block, word by word from the block's start. The block's own bits must spell
-/// more than `index` values.
-pub(crate) fn find_in_block(code: &Code, dict: &Dict, block: &[u8], index: u64) -> Found
+/// Decodes the value at `index` in a block, word by word from the block's start. Returns the descent to it and the number
+/// of words read, including the word that contains the value. The block's own bits must spell more than `index` values.
+pub(crate) fn find_in_block(code: &Code, dict: &Dict, block: &[u8], index: u64) -> (Descent, u64)
     requires accepted { IsCode code.now }
     requires symbols { code.now.symbols ≡ length dict.now }
     requires size { length block.now ≤ 2 ^ 60 }
     requires small { index < 2 ^ 62 }
     requires within { index < length (values_spelled code.now dict.now (bits block.now)) }
-    ensures value { slice_get (values_spelled code.now dict.now (bits block.now)) index ≡ Some result.value }
-    ensures words { result.words ≡ (word_at code.now dict.now (bits block.now) index).list + 1 }
-    ensures pairs { result.pairs ≡ pairs_above code.now dict.now (bits block.now) index }
+    ensures value { slice_get (values_spelled code.now dict.now (bits block.now)) index ≡ Some result.0.value }
+    ensures pairs { result.0.pairs ≡ pairs_above code.now dict.now (bits block.now) index }
+    ensures words { result.1 ≡ (word_at code.now dict.now (bits block.now) index).list + 1 }
 {
     let mut words = Bits::new(block);
     let mut ahead = index;
@@ -274,76 +224,12 @@ pub(crate) fn find_in_block(code: &Code, dict: &Dict, block: &[u8], index: u64) 
     while let Some(symbol) = next_word_if::<true>(code, &mut words) {
         let count = dict.len(symbol);
         if ahead < u64::from(count) {
-            let end = dict.descend(symbol, ahead as u16);
-            return Found {
-                value: end.value,
-                words: before + 1,
-                pairs: end.pairs,
-            };
+            return (dict.descend(symbol, ahead as u16), before + 1);
         }
         ahead -= u64::from(count);
         before += 1;
     }
     unreachable!()
-}
-
-/// Appends the first `count` values of a symbol. The values of a pair are those of its left symbol, then those of
-/// its right symbol.
-///
-/// It makes one call for each pair and each leaf that it expands. Pairs are nested at most 255 deep, so calls are
-/// nested at most 256 deep.
-fn push_symbol(
-    dict: &Dict,
-    symbol: u16,
-    count: u16,
-    values: &mut Vec<u16>,
-) -> Result<(), AllocError>
-    requires dictionary { IsDictionary dict.now }
-    requires there { symbol < length dict.now }
-    requires some { 1 ≤ count }
-    requires within { count ≤ length (expansion_of dict.now symbol) }
-    ensures { OnOk result (values.new.items ≡ values.old.items ++ take count (expansion_of dict.now symbol)) }
-{
-    let entry = dict.entry(symbol);
-    let first = left(entry);
-    if is_leaf(entry) {
-        values.push(first)?;
-        return Ok(());
-    }
-    let length = dict.len(first);
-    if count <= length {
-        return push_symbol(dict, first, count, values);
-    }
-    push_symbol(dict, first, length, values)?;
-    push_symbol(dict, right(entry), count - length, values)
-}
-
-/// Appends the first `needed` values of a block whose own bits spell at least that many.
-pub(crate) fn push_values(
-    code: &Code,
-    dict: &Dict,
-    block: &[u8],
-    needed: u64,
-    values: &mut Vec<u16>,
-) -> Result<(), AllocError>
-    requires accepted { IsCode code.now }
-    requires symbols { code.now.symbols ≡ length dict.now }
-    requires size { length block.now ≤ 2 ^ 60 }
-    requires within { needed ≤ length (values_spelled code.now dict.now (bits block.now)) }
-    ensures { OnOk result (values.new.items ≡ values.old.items ++ take needed (values_spelled code.now dict.now (bits block.now))) }
-{
-    prove_eq!(code.symbols(), dict.symbols());
-    let mut words = Bits::new(block);
-    let mut missing = needed;
-    while missing > 0 {
-        let Some(symbol) = next_word_if::<true>(code, &mut words) else {
-            unreachable!()
-        };
-        let count = u64::from(dict.len(symbol)).min(missing);
-        push_symbol(dict, symbol, count as u16, values)?;
-        missing -= count;
-    }
-    Ok(())
 }
 
 /// Writes the first values of a symbol, as many as `values` has room for.

@@ -62,23 +62,36 @@ fn refused_codes(rt: HostRuntime) {
 }
 
 /// Two words at a step are read if at least 192 of 256 bytes begin with two whole words. Word by word is read another code in
-/// which 63 of 64 windows begin with a word of the two least lengths.
+/// which 63 of 64 windows begin with a word of the two least lengths, and by bytes one in which 31 of 32 windows begin with a
+/// word of the least length, eight bits.
 #[test]
 fn ways_of_reading(rt: HostRuntime) {
     let codes = [
-        (code(&rt, 1, 2, &[2, 0], 3), true, false),
+        (code(&rt, 1, 2, &[2, 0], 3), true, false, false),
         // 14 words of 4 bits, so 14 * 14 bytes
-        (code(&rt, 4, 5, &[4, 0], 18), true, false),
+        (code(&rt, 4, 5, &[4, 0], 18), true, false, false),
         // 13 words of 4 bits, so 13 * 13 bytes
-        (code(&rt, 4, 5, &[6, 0], 19), false, true),
-        (code(&rt, 5, 5, &[0], 32), false, true),
+        (code(&rt, 4, 5, &[6, 0], 19), false, true, false),
+        (code(&rt, 5, 5, &[0], 32), false, true, false),
         // 2 and 4 words of 7 bits: 1 and 2 of 64 windows
-        (code(&rt, 5, 7, &[33, 2, 0], 64), false, true),
-        (code(&rt, 5, 7, &[34, 4, 0], 64), false, false),
+        (code(&rt, 5, 7, &[33, 2, 0], 64), false, true, false),
+        (code(&rt, 5, 7, &[34, 4, 0], 64), false, false, false),
+        // 248 and 247 words of 8 bits: 31 of 32 windows, and fewer
+        (code(&rt, 8, 9, &[16, 0], 264), false, true, true),
+        (code(&rt, 8, 9, &[18, 0], 265), false, true, false),
+        (code(&rt, 7, 8, &[0, 0], 128), false, true, false),
     ];
-    for (code, two_words, word_by_word) in codes.iter() {
-        let found = (code.has_two_words(), code.is_read_word_by_word());
-        assert!(rt; found == (*two_words, *word_by_word), "{}", code.symbols());
+    for (code, two_words, word_by_word, bytes) in codes.iter() {
+        let found = (
+            code.has_two_words(),
+            code.is_read_word_by_word(),
+            code.bytes_above() < u64::MAX,
+        );
+        assert!(rt;
+            found == (*two_words, *word_by_word, *bytes),
+            "{}",
+            code.symbols()
+        );
     }
 }
 

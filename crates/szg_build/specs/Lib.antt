@@ -16,7 +16,6 @@ pub mod Laws
 pub mod Writing
 pub mod Held
 pub mod Fronts
-pub mod Rests
 pub mod Wholes
 pub mod Streaming
 pub mod BlockValues

@@ -6,12 +6,13 @@ use Rattle.szg_values.specs.declared.Kind.TheVariants.{Wdl, Dtz}
 use Rattle.szg_file.specs.Contents.{Part}
 use Rattle.szg_file.specs.Held as held
 use Rattle.szg_build.specs.declared.reading.gathering.Subs.{Subs}
-use Rattle.szg_build.specs.Dump.{Dump, SubDump, parts_of, subtable_ids_of, flags_in, maps_in, dump_of_subs}
-use Rattle.szg_build.specs.Packed.{lists_in}
+use Rattle.szg_build.specs.declared.reading.subreading.SubText.{SubText}
+use Rattle.szg_build.specs.Dump.{Dump, SubDump, subtable_ids_of, flags_in, maps_in, dump_of_subs}
+use Rattle.szg_build.specs.Packed.{lists_in, values_held}
 use Rattle.szg_build.specs.Text.{Form}
 use Rattle.szg_build.specs.Plan.{sizes_if_valid}
 use Rattle.szg_build.specs.Lines.{Lines, means, ◌>>=◌}
-use Rattle.szg_build.specs.Grammar.{each, end_line, part_line, subtables_format}
+use Rattle.szg_build.specs.Grammar.{subtables_format}
 
 -- what is left of a dump after the parts
 abbrev pub dump_after_parts : Form → Sides → Kind → List ℕ → List Part → Lines Dump
@@ -19,12 +20,9 @@ dump_after_parts form material kind last parts = do
   subs ← subtables_format form kind (sizes_if_valid material kind parts) 0 (subtable_ids_of material kind)
   means (dump_of_subs material kind parts last subs)
 
--- what is left of a dump after the kind
-abbrev pub dump_after_kind : Form → Sides → Kind → Lines Dump
-dump_after_kind form material kind = do
-  last ← end_line
-  parts ← each part_line (parts_of material)
-  dump_after_parts form material kind last parts
+-- the content of a subtable
+abbrev pub subtable_shown : SubText → SubDump
+subtable_shown sub = record { flags = sub.flags; lists = option_map held.map_of sub.map; values = values_held sub.values }
 
 -- a list of one item in DTZ, the empty list in WDL
 abbrev pub only_in_dtz : {A : Type 0} → Kind → A → List A

@@ -2,7 +2,7 @@
 ghost use Rattle.std.specs.Prelude.{◌≡◌, map, Some, option_map, IfOk};
 ghost use Rattle.szg_file.specs.Held.{part_of, map_of};
 ghost use Rattle.szg_file.specs.Values.{subtable_at};
-ghost use Rattle.szg_build.specs.Built.{plan_flags, subtables_in, value_lists};
+ghost use Rattle.szg_build.specs.Built.{plan_flags, subtables_in};
 
 use crate::places::places;
 use std::alloc::{AllocError, Global};
@@ -74,16 +74,4 @@ pub(crate) fn table_subtable_ids(table: &Table) -> &'static [(u8, u8)]
 {
     table_fits(table);
     places(table.material(), table.kind())
-}
-
-/// Lists the values of all subtables, in file order.
-pub(crate) fn copy_values(alloc: Global, table: &Table) -> Result<Vec<Vec<u16>>, AllocError>
-    ensures { IfOk result (λ lists. map (λ list. list.items) lists.items ≡ value_lists table.now.contents) }
-{
-    let mut lists = Vec::new(alloc);
-    'places: for place in table_subtable_ids(table) {
-        let values = table.values(alloc, place.0, place.1)?;
-        lists.push(values)?;
-    }
-    Ok(lists)
 }

@@ -3,7 +3,7 @@ ghost use Rattle.std.specs.Prelude.{◌≡◌};
 ghost use Rattle.szg_build.specs.declared.dump.DumpReadFault.TheVariants.{Memory};
 
 use crate::BuildFault;
-use crate::copies::{copy_flags, copy_maps, copy_parts, copy_values};
+use crate::copies::{copy_flags, copy_maps, copy_parts, table_subtable_ids};
 use std::alloc::{AllocError, AllocFailed, Global};
 use szg_file::{Map, PartBytes, Table};
 use szg_values::{Kind, Material};
@@ -36,7 +36,11 @@ impl Dump {
         let parts = copy_parts(alloc, table.parts())?;
         let flags = copy_flags(alloc, table)?;
         let maps = copy_maps(alloc, table.maps())?;
-        let lists = copy_values(alloc, table)?;
+        let mut lists = Vec::new(alloc);
+        'places: for place in table_subtable_ids(table) {
+            let values = table.values(alloc, place.0, place.1)?;
+            lists.push(values)?;
+        }
         Ok(Dump {
             material: table.material().copy(),
             kind: table.kind(),

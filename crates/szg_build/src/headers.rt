@@ -5,9 +5,6 @@
 use crate::Plan;
 use szg_file::Map;
 
-/// The bytes of the magic and of byte 4.
-const FIRST: u64 = 5;
-
 /// Returns the number of bytes of a table before its sparse indexes, without the header of the one subtable that is not
 /// constant. None if more than one is not constant, since the padding then depends on all of them. `with_blocks` of the
 /// `count` subtables are not constant.
@@ -16,7 +13,7 @@ pub(crate) fn count_other_bytes(plan: &Plan, count: usize, with_blocks: usize) -
         return None;
     }
     let to_even = |offset: u64| offset.saturating_add(offset % 2);
-    let mut offset = FIRST;
+    let mut offset: u64 = 5; // the magic and byte 4
     for part in &plan.parts {
         offset = offset
             .saturating_add(part.order.len() as u64)

@@ -166,25 +166,6 @@ pub(crate) fn read_map<R: Input>(
 
 // ---- the parts
 
-/// Reads a part.
-fn read_part_bytes<R: Input>(
-    number: u8,
-    following: u64,
-    input: &mut R,
-    incoming: &mut Incoming,
-) -> Result<PartBytes, DumpReadFault>
-    requires number { number < 4 }
-    requires held { length (held_of incoming.old) ≤ following + 1 }
-    ensures lines { ReadsLines (part_line number) part_of incoming.old incoming.new R.Input input.old input.new result }
-    ensures following { OnOk result (length (held_of incoming.new) ≤ following) }
-    ensures memory { IsErrOf result DumpReadFault.Memory → LacksLines (part_line number) following incoming.old R.Input input.old input.new }
-{
-    let (order, men) = read_parsed(|text| parse_part(number, text), following, input, incoming)?;
-    let order = Vec::from_slice(incoming.alloc, order.as_slice())?;
-    let men = Vec::from_slice(incoming.alloc, men.as_slice())?;
-    Ok(PartBytes { order, men })
-}
-
 /// Reads the parts of a material.
 pub(crate) fn read_parts<R: Input>(
     material: &Material,
@@ -202,8 +183,11 @@ pub(crate) fn read_parts<R: Input>(
     let count = part_count(material);
     'parts: for number in 0..count {
         let left = u64::from(count - 1 - number);
-        let part = read_part_bytes(number, following + left, input, incoming)?;
-        parts.push(part)?;
+        let due = following + left;
+        let (order, men) = read_parsed(|text| parse_part(number, text), due, input, incoming)?;
+        let order = Vec::from_slice(incoming.alloc, order.as_slice())?;
+        let men = Vec::from_slice(incoming.alloc, men.as_slice())?;
+        parts.push(PartBytes { order, men })?;
     }
     Ok(parts)
 }

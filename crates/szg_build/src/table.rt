@@ -25,8 +25,6 @@ use szg_file::{Fields, Map, PartBytes, Table, subtable_sizes};
 use szg_subtable::{Choice, Packing, Unwatched, Watcher};
 use szg_values::{Kind, Material};
 
-// ---- for proofs alone: what types ensure
-
 /// For proofs alone: the order bytes and man bytes of parts are below 256.
 pub(crate) fn parts_fit(parts: &[PartBytes])
     ensures { AllByRecursion IsOfBytes (map part_of parts.now) }
@@ -59,8 +57,6 @@ fn maps_fit(maps: &[Option<Map>])
         }
     }
 }
-
-// ---- the table
 
 /// Returns byte 4: bit 0 is set if the material is not symmetric, bit 1 if it has pawns.
 fn byte4_of(material: &Material) -> u8

@@ -1,15 +1,16 @@
 -- What calls on an opened front return.
-use Rattle.std.proofs.Common.{◌≡◌, ◌<◌, ◌∙◌, ℕ, Bool, true, false, List, Option, None, Some, Ok, option_map, cond, inl, inr, refl, sym, subst}
+use Rattle.std.proofs.Common.{◌≡◌, ◌<◌, ◌∙◌, ℕ, zero, suc, Bool, true, false, List, Option, None, Some, Ok, option_map, cond, inl, inr, refl, sym, subst}
 use Rattle.std.proofs.lemmas.Bool.{ltb-true}
 use Rattle.std.specs.Prelude.{◌⊎◌, ℤ, Err, nat_lt, is_some, IsSomeAnd, MatchOption}
 use Rattle.szg_values.specs.Material.{Sides, parsed}
 use Rattle.szg_file.specs.Contents.{Slot}
 use Rattle.szg_file.specs.FrontTable.{FrontKept, IsFrontOf}
+use Rattle.szg_file.specs.Unread.{unread_file}
 use Rattle.szg_file.specs.declared.opened.fetching.FetchFault.{FetchFault}
 use Rattle.szg_file.specs.declared.opened.fetching.FetchFault.TheVariants.{Block, Source}
 use Rattle.szg_c.specs.Fronts.{FetchReported, IsFront, IsOutcomeWritten, ReportsFront}
 use Rattle.szg_c.specs.Places.{with_slot}
-use Rattle.szg_c.specs.Reported.{IsName, kind_of_flag}
+use Rattle.szg_c.specs.Reported.{IsName, Stops, kind_of_flag}
 use Rattle.szg_c.specs.declared.fronts.BadBlock.{BadBlock}
 use Rattle.szg_c.specs.declared.places.Unfound.TheVariants.{Fetch}
 
@@ -74,3 +75,8 @@ front_states name dtz bytes kept held status place reason is done (inl e) =
 front_states name dtz bytes kept held status place reason is done (inr e) =
     let name_is : IsName name = (kept.index.material, is.0) in
     subst (λ (s : ℕ). ReportsFront name dtz bytes (IsSomeAnd held (IsFront name dtz bytes)) s place reason) (sym e) name_is
+
+-- where there is none, the status says why
+pub front_stops : (name : List ℕ) (dtz : Bool) (bytes : List ℕ) (done : Type 0) (status place reason : ℕ) → Stops unread_file name dtz bytes status place reason → ReportsFront name dtz bytes done status place reason
+front_stops name dtz bytes done zero place reason h = absurd h
+front_stops name dtz bytes done (suc status) place reason h = h

@@ -63,13 +63,7 @@ fn class_of_line(set: &mut MappedSet<'_>, line: &[u8], class: &mut i8) -> u32
         Ok(said) => said,
         Err(status) => return status,
     };
-    let mut lack = RawMissing {
-        name: [0; 8],
-        dtz: false,
-        block: 0,
-        offset: 0,
-    };
-    class_in(set, &said.position, class, &mut lack)
+    class_in(set, &said.position, class, &mut RawMissing::default())
 }
 
 /// Returns the first line of a text, and the text behind its line feed.

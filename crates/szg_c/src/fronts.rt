@@ -1,12 +1,10 @@
 //! Calls on an opened front. The file's bytes are lent at each call.
-ghost use Rattle.std.specs.Prelude.{◌≡◌, ◌⊎◌, IfErr, IfOk, IfSome, IsSomeAnd, MatchOption, is_some};
+ghost use Rattle.std.specs.Prelude.{◌≡◌, ◌⊎◌, IfSome, IsSomeAnd, MatchOption, is_some};
 ghost use Rattle.std.specs.declared.option.Option.TheVariants.{None, Some};
 ghost use Rattle.szg_file.specs.FrontTable.{IsFrontOf};
 ghost use Rattle.szg_file.specs.Index.{slot_in};
-ghost use Rattle.szg_file.specs.Unread.{unread_file};
 ghost use Rattle.szg_c.specs.Fronts.{FetchReported, IsFront, IsGot, ReportsFront, greatest_span_bits};
 ghost use Rattle.szg_c.specs.Places.{with_slot};
-ghost use Rattle.szg_c.specs.Reported.{Stops};
 
 use crate::handle::{hold, put, share, shut, take, with_held, write};
 use crate::held_front::HeldFront;
@@ -29,29 +27,6 @@ pub struct BadBlock {
     pub offset: u64,
 }
 
-/// The front of this name and kind that the bytes begin with; else the status.
-fn front_in(
-    alloc: Global,
-    name: &[u8],
-    dtz: bool,
-    bytes: &[u8],
-    answer: &mut RawAnswer,
-) -> Result<FrontTable, u32>
-    ensures front { IfOk result (IsFront name.now dtz bytes.now) }
-    ensures stops { IfErr result (λ status. Stops unread_file name.now dtz bytes.now status answer.new.place answer.new.reason) }
-    ensures kept { IfOk result (λ t. answer.new ≡ answer.old) }
-    ensures stays { IfErr result (λ status. (status ≡ 2 → ⊥) → answer.new ≡ answer.old) }
-{
-    let Some(material) = material_of(name) else {
-        return Err(NAME);
-    };
-    let size = bytes.len() as u64;
-    match open_front(alloc, material, kind_of(dtz), size, &mut Bytes::new(bytes)) {
-        Ok((table, _)) => Ok(table),
-        Err(fault) => Err(fault_status(fault, answer)),
-    }
-}
-
 /// Opens the front of the table of this name and kind whose file the bytes are: reads and checks all but the blocks. What
 /// `front` held before is let go.
 ///
@@ -70,14 +45,18 @@ pub extern "C" fn szg_open_front(
     ensures stays { (result ≡ 2 → ⊥) → answer.new ≡ answer.old }
 {
     shut(front, alloc);
-    match front_in(alloc, name, dtz, bytes, answer) {
-        Ok(table) => {
+    let Some(material) = material_of(name) else {
+        return NAME;
+    };
+    let size = bytes.len() as u64;
+    match open_front(alloc, material, kind_of(dtz), size, &mut Bytes::new(bytes)) {
+        Ok((table, _)) => {
             let Ok(shared) = Shared::new(alloc, table) else {
                 return MEMORY;
             };
             hold(alloc, front, shared)
         }
-        Err(status) => status,
+        Err(fault) => fault_status(fault, answer),
     }
 }
 

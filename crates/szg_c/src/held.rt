@@ -71,13 +71,10 @@ fn value_in(table: &Table, part: u8, side: u8, index: u64) -> Result<u16, u32>
     ensures there { IfSome (subtable_at table.now.contents part side) (λ found. index < found.0.size → IsOk result) }
     ensures range { IfErr result (λ status. status ≡ RANGE) }
 {
-    let Some(size) = table.size(part, side) else {
-        return Err(RANGE);
-    };
-    if index >= size {
-        return Err(RANGE);
+    match table.size(part, side) {
+        Some(size) if index < size => Ok(table.get(part, side, index)),
+        _ => Err(RANGE),
     }
-    Ok(table.get(part, side, index))
 }
 
 /// Finds the value at an index.
@@ -134,14 +131,13 @@ pub(crate) fn values_in(table: &Table, part: u8, side: u8, values: &mut [u16]) -
     ensures other_length { IfSome (subtable_at table.now.contents part side) (λ found. length values.old ≢ found.0.size → result ≡ 4) }
     ensures stays { (result ≡ 0 → ⊥) → values.new ≡ values.old }
 {
-    let Some(size) = table.size(part, side) else {
-        return RANGE;
-    };
-    if values.len() as u64 != size {
-        return RANGE;
+    match table.size(part, side) {
+        Some(size) if values.len() as u64 == size => {
+            table.write_values(part, side, values);
+            DONE
+        }
+        _ => RANGE,
     }
-    table.write_values(part, side, values);
-    DONE
 }
 
 /// Decodes all values of a part's side into a list of that length.

@@ -1,6 +1,6 @@
 //! Calls on a tablebase: tables are added by their bytes, and positions are probed with their captures, the right to
 //! capture en passant and the fifty-move counter.
-ghost use Rattle.std.specs.Prelude.{◌≡◌, ◌≤◌, ◌⊎◌, ◌++◌, [], IfSome, List, MatchResult, drop, length, map};
+ghost use Rattle.std.specs.Prelude.{◌≡◌, ◌⊎◌, [], IfSome, List, MatchResult};
 ghost use Rattle.std.specs.Fn.{CalledAtMut};
 ghost use Rattle.std.specs.declared.option.Option.TheVariants.{None};
 ghost use Rattle.szg_file.specs.Unread.{unread_file};
@@ -28,7 +28,7 @@ use szg_values::Kind;
 
 /// What a tablebase does not have for a position.
 #[repr(C)]
-#[derive(Drop)]
+#[derive(Default, Drop)]
 pub struct RawMissing {
     /// The name of the table's material, and a zero byte.
     pub name: [u8; 8],
@@ -306,16 +306,6 @@ fn raw_move(ranked: &RankedMove) -> RawMove
     }
 }
 
-/// Writes moves as numbers to the beginning of a list.
-fn write_moves(ranked: &[RankedMove], moves: &mut [RawMove])
-    requires { length ranked.now ≤ length moves.old }
-    ensures { moves.new ≡ map raw_move ranked.now ++ drop (length ranked.now) moves.old }
-{
-    for i in 0..ranked.len() {
-        moves[i] = raw_move(&ranked[i]);
-    }
-}
-
 /// Writes the moves of a position to the beginning of a list, the best first, by a set of tables; returns the status.
 fn moves_in(
     set: &mut MappedSet<'_>,
@@ -338,7 +328,9 @@ fn moves_in(
     if moves.len() < ranked.len() {
         return RANGE;
     }
-    write_moves(ranked.as_slice(), moves);
+    for i in 0..ranked.len() {
+        moves[i] = raw_move(&ranked[i]);
+    }
     *count = ranked.len();
     DONE
 }

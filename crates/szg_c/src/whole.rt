@@ -1,5 +1,5 @@
 //! Calls on a whole file in memory.
-ghost use Rattle.std.specs.Prelude.{◌≡◌, ◌≢◌, ◌<◌, ◌≤◌, ℕ, slice_index, min, drop, length, IsTrue, IsFalse, IfSome, IsSomeAnd, IsNone};
+ghost use Rattle.std.specs.Prelude.{◌≡◌, ◌≢◌, min, drop, length, IsTrue, IsFalse, IfSome, IsSomeAnd, IsNone};
 ghost use Rattle.szg_file.specs.Held.{file_bytes};
 ghost use Rattle.szg_file.specs.Values.{subtable_at, values_of};
 ghost use Rattle.szg_c.specs.Reported.{Reports};
@@ -136,25 +136,13 @@ fn values_at(table: &Table, part: u8, side: u8, indexes: &[u64], values: &mut [u
         return false;
     };
     let count = indexes.len().min(values.len());
-    if !are_below(indexes, count, size) {
-        return false;
-    }
-    for i in 0..count {
-        values[i] = table.get(part, side, indexes[i]);
-    }
-    true
-}
-
-/// Whether the first `count` indexes are below the size.
-fn are_below(indexes: &[u64], count: usize, size: u64) -> bool
-    requires { count ≤ length indexes.now }
-    ensures below { IsTrue result → (k : ℕ) → k < count → slice_index indexes.now k < size }
-    ensures outside { IsFalse result → HasIndexFrom size indexes.now count }
-{
-    for i in 0..count {
+    'indexes: for i in 0..count {
         if indexes[i] >= size {
             return false;
         }
+    }
+    'values: for i in 0..count {
+        values[i] = table.get(part, side, indexes[i]);
     }
     true
 }

@@ -127,8 +127,8 @@ pub(crate) fn is_in_check(men: &[(Man, Color, Square)], occupied: u64, color: Co
     is_in_check_by(men, occupied, color, other, reached_by(men, other))
 }
 
-/// The same, given the other colour, and the squares of this colour's men that it would reach on an empty board. That no man
-/// of it reaches the king is soon known.
+/// The same, given the other colour, and the squares of this colour's men that it would reach on an empty board. If there are
+/// none, as mostly, no king is looked for.
 pub(crate) fn is_in_check_by(
     men: &[(Man, Color, Square)],
     occupied: u64,
@@ -142,6 +142,9 @@ pub(crate) fn is_in_check_by(
     requires reached { reached ≡ reached_of men.now other }
     ensures { result ≡ is_in_check men.now color }
 {
+    if reached == 0 {
+        return false;
+    }
     has_attacked_king(men, occupied, color, other, reached)
 }
 

@@ -13,7 +13,7 @@ use Rattle.szg_code.specs.Window.{padded, IsWindow, HoldsBits}
 use Rattle.szg_code.proofs.Numbers.{number-append, number-below, number-bits_of_number, mod-small, number-zeros}
 use Rattle.szg_code.proofs.Reading.{number-take, reaches-shifted_base, shifted_base-reaches, least_length_of_window, no_base_of_window}
 use Rattle.szg_code.proofs.Prefixes.{symbol_of_prefix-is}
-use Rattle.szg_code.proofs.ByteBits.{bits-cons, bits-nil, drop-bits}
+use Rattle.szg_code.proofs.ByteBits.{bits-cons, bits-nil, drop-bits, length-bits}
 
 -- ---- padded prefixes
 
@@ -254,9 +254,6 @@ HoldsBits-moved bytes offset window held l most h short enough =
       is_window = record { short = omega arith; window_is = rw (← d, w) m };
     }
 
-pub number-u64 : (bytes : List ℕ) (at : ℕ) → ((k : ℕ) → get_or bytes k 0 < 256) → number (padded 64 (drop (8 * at) (bits bytes))) ≡ big_from at 8 bytes
-number-u64 bytes at fit = ap (λ (u : List Bool). number (padded 64 u)) (drop-bits at bytes) ∙ number-padded_bits 8 bytes at fit
-
 -- eight bytes that are read from a slice
 pub number-read : (bytes : List ℕ) (at : ℕ) → ((k : ℕ) → get_or bytes k 0 < 256) → big_from 0 8 (take (length bytes - at) (drop at bytes)) ≡ number (padded 64 (drop (8 * at) (bits bytes)))
 number-read bytes at fit =
@@ -265,13 +262,19 @@ number-read bytes at fit =
     let fit' : (k : ℕ) → get_or ys k 0 < 256 = λ k. let f = fit (at + k) in let g = get_or-drop at bytes k 0 in omega (arith, f, g) in
     ap (λ (u : List ℕ). big_from 0 8 u) whole ∙ sym (number-padded_bits 8 ys 0 fit') ∙ ap (λ (u : List Bool). number (padded 64 u)) (sym (drop-bits at bytes))
 
-pub big_from-eight : (xs : List ℕ) (at : ℕ) → big_from at 8 xs ≡ big_from 0 8 (get_or xs at 0 ∷ get_or xs (at + 1) 0 ∷ get_or xs (at + 2) 0 ∷ get_or xs (at + 3) 0 ∷ get_or xs (at + 4) 0 ∷ get_or xs (at + 5) 0 ∷ get_or xs (at + 6) 0 ∷ get_or xs (at + 7) 0 ∷ [])
-big_from-eight xs at =
-    let a1 : suc at ≡ at + 1 = omega arith in
-    let a2 : suc (suc at) ≡ at + 2 = omega arith in
-    let a3 : suc (suc (suc at)) ≡ at + 3 = omega arith in
-    let a4 : suc (suc (suc (suc at))) ≡ at + 4 = omega arith in
-    let a5 : suc (suc (suc (suc (suc at)))) ≡ at + 5 = omega arith in
-    let a6 : suc (suc (suc (suc (suc (suc at))))) ≡ at + 6 = omega arith in
-    let a7 : suc (suc (suc (suc (suc (suc (suc at)))))) ≡ at + 7 = omega arith in
-    rw (a7, a6, a5, a4, a3, a2, a1) refl
+-- at most eight bytes up to the end, followed by zeros
+pub number-read_short : (bytes : List ℕ) (at n : ℕ) → n + at ≡ length bytes → n ≤ 8 → ((k : ℕ) → get_or bytes k 0 < 256) →
+    big_from 0 n (take (length bytes - at) (drop at bytes)) * 2 ^ (8 * (8 - n)) % 18446744073709551616 ≡ number (padded 64 (drop (8 * at) (bits bytes)))
+number-read_short bytes at n end few fit =
+    let ys : List ℕ = drop at bytes in
+    let d : length ys ≡ length bytes - at = length-drop at bytes in
+    let whole : take (length bytes - at) ys ≡ ys = take_all (length bytes - at) ys (omega (arith, d)) in
+    let fit' : (k : ℕ) → get_or ys k 0 < 256 = λ k. let f = fit (at + k) in let g = get_or-drop at bytes k 0 in omega (arith, f, g) in
+    let b : length (bits ys) ≡ 8 * length ys = length-bits ys in
+    let all : 8 * n + 8 * (8 - n) ≡ 64 = omega (arith, few) in
+    let more : number (padded (8 * n + 8 * (8 - n)) (bits ys)) ≡ number (padded (8 * n) (bits ys)) * 2 ^ (8 * (8 - n)) = number-padded_more (8 * n) (8 * (8 - n)) (bits ys) (omega (arith, b, d, end)) in
+    let is : number (padded 64 (bits ys)) ≡ big_from 0 n ys * 2 ^ (8 * (8 - n)) =
+    ap (λ (k : ℕ). number (padded k (bits ys))) (sym all) ∙ more ∙ ap (λ (m : ℕ). m * 2 ^ (8 * (8 - n))) (number-padded_bits n ys 0 fit') in
+    let below : number (padded 64 (bits ys)) < 2 ^ 64 = rw (length-padded 64 (bits ys)) at (number-below (padded 64 (bits ys))) in
+    ap (λ (u : List ℕ). big_from 0 n u * 2 ^ (8 * (8 - n)) % 18446744073709551616) whole ∙ ap (λ (m : ℕ). m % 18446744073709551616) (sym is)
+    ∙ mod-small (number (padded 64 (bits ys))) 18446744073709551616 below ∙ ap (λ (u : List Bool). number (padded 64 u)) (sym (drop-bits at bytes))

@@ -1,8 +1,8 @@
 //! The code section of a subtable header, and the checks that turn it into a code.
 ghost use Rattle.std.specs.Prelude.{ℕ, ◌≡◌, ◌+◌, ◌-◌, ◌*◌, ◌^◌, ◌<◌, ◌≤◌, ◌↔◌, ◌⊎◌, length, IsTrue, IfOk, IfErr, IfSome, IfNone};
 ghost use Rattle.szg_code.specs.Canonical.{base};
-ghost use Rattle.szg_code.specs.Acceptance.{HasLengths, IsOrderedAt, HasRoomAt, IsCode, IsFirstRise, IsLastOverfull, IsOverfullAtLeast};
-ghost use Rattle.szg_code.specs.Least.{HasBases, HasShiftedBases, HasStarts, HasZeroSymbols, IsStart, shifted_base};
+ghost use Rattle.szg_code.specs.Acceptance.{HasLengths, IsOrderedAt, IsCode, IsFirstRise, IsLastOverfull, IsOverfullAtLeast};
+ghost use Rattle.szg_code.specs.Least.{HasBases, HasShiftedBases, HasStarts, HasZeroSymbols, shifted_base};
 
 /// The number of 64-bit windows that share a first byte.
 const WINDOWS: u64 = 1 << 56;
@@ -77,35 +77,25 @@ impl CodeHeader {
         Ok(bases)
     }
 
-    /// Shifts each base to the top of a 64-bit window. The result has a length's base at the index of the length.
-    pub fn shifted(&self, bases: &[u32; 32]) -> [u64; 34]
+    /// Returns two lists that have an item at the index of each length: the bases, shifted to the top of a 64-bit window;
+    /// and the symbols that the number 0 would have, modulo 2^64, the lowest symbol without the base.
+    pub fn by_length(&self, bases: &[u32; 32]) -> ([u64; 34], [u64; 33])
         requires accepted { IsCode (code_of self.now) }
         requires bases { HasBases (code_of self.now) bases.now }
-        ensures { HasShiftedBases (code_of self.now) result }
-    {
-        let min = usize::from(self.min);
-        let mut shifted = [0u64; 34];
-        for length in min..usize::from(self.max) + 1 {
-            shifted[length] = u64::from(bases[length - min]) << (64 - length);
-        }
-        shifted
-    }
-
-    /// Computes, for each length, the symbol that the number 0 would have, modulo 2^64: the lowest symbol without the base.
-    /// The result has it at the index of the length.
-    pub fn zero_symbols(&self, bases: &[u32; 32]) -> [u64; 33]
-        requires accepted { IsCode (code_of self.now) }
-        requires bases { HasBases (code_of self.now) bases.now }
-        ensures { HasZeroSymbols (code_of self.now) result }
+        ensures shifted { HasShiftedBases (code_of self.now) result.0 }
+        ensures symbols { HasZeroSymbols (code_of self.now) result.1 }
     {
         let min = usize::from(self.min);
         let lowest: &[u16] = &self.lowest;
+        let mut shifted = [0u64; 34];
         let mut symbols = [0u64; 33];
         for length in min..usize::from(self.max) + 1 {
+            let base = u64::from(bases[length - min]);
             let first = u64::from(lowest[length - min]);
-            symbols[length] = first.wrapping_sub(u64::from(bases[length - min]));
+            shifted[length] = base << (64 - length);
+            symbols[length] = first.wrapping_sub(base);
         }
-        symbols
+        (shifted, symbols)
     }
 
     /// Returns the first length, from length `from` on, whose base, shifted to the top of 64 bits, is at most the window.
@@ -131,17 +121,8 @@ impl CodeHeader {
         length
     }
 
-    /// Returns the first length whose base is reached by some window with this first byte.
-    fn start_of(&self, bases: &[u64; 34], first: u8) -> u8
-        requires accepted { IsCode (code_of self.now) }
-        requires bases { HasShiftedBases (code_of self.now) bases.now }
-        ensures { IsStart (code_of self.now) first result }
-    {
-        let last = u64::from(first) * WINDOWS + (WINDOWS - 1);
-        self.reached_length_from(bases, usize::from(self.min), last) as u8
-    }
-
-    /// Computes, for each first byte of a window, the length from which the search starts.
+    /// Computes, for each first byte of a window, the length from which the search starts: the first one whose base is
+    /// reached by some window with this byte.
     pub fn starts(&self, bases: &[u64; 34]) -> [u8; 256]
         requires accepted { IsCode (code_of self.now) }
         requires bases { HasShiftedBases (code_of self.now) bases.now }
@@ -149,7 +130,8 @@ impl CodeHeader {
     {
         let mut starts = [0u8; 256];
         for first in 0..256usize {
-            starts[first] = self.start_of(bases, first as u8);
+            let last = first as u64 * WINDOWS + (WINDOWS - 1);
+            starts[first] = self.reached_length_from(bases, usize::from(self.min), last) as u8;
         }
         starts
     }

@@ -5,7 +5,6 @@
 //! of symbols. Bits are read from each byte high bit first.
 #![tactic(auto)]
 
-mod bytes;
 mod canonical;
 mod checks;
 mod code_word;
@@ -16,9 +15,7 @@ mod writer;
 
 pub use canonical::{Code, word};
 pub use code_word::Word;
-pub use reader::{
-    Bits, EndlessBits, NextWords, next, next_endless, next_word, next_word_if, next_words,
-};
+pub use reader::{Bits, EndlessBits, NextWords, next, next_endless, next_word_if, next_words};
 pub use writer::{BitBuf, put};
 
 /// Why a code is refused: the first fault in this order.

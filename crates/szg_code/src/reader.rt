@@ -1,12 +1,12 @@
 //! A reader of words, by windows of 64 bits as in de Man's probing code.
-ghost use Rattle.std.specs.Prelude.{◌≡◌, ◌*◌, ◌^◌, ◌<◌, ◌≤◌, ◌%◌, ◌+◌, [], ◌++◌, IfNone, IfSome, length, take, drop};
+ghost use Rattle.std.specs.Prelude.{◌≡◌, ◌*◌, ◌^◌, ◌<◌, ◌≤◌, ◌%◌, ◌+◌, [], IfNone, IfSome, length, take, drop};
 ghost use Rattle.szg_code.specs.Bits.{bits, number};
+ghost use Rattle.szg_code.specs.Least.{HasBytesAbove};
 ghost use Rattle.szg_code.specs.Spelling.{BeginsWithNoWord};
 ghost use Rattle.szg_code.specs.Cursor.{Cursor, TakesWord, TakesWords};
 ghost use Rattle.szg_code.specs.NextWords.{symbols_of};
 ghost use Rattle.szg_code.specs.Window.{IsWordReader, padded};
 
-use crate::bytes::byte_or_zero;
 use crate::canonical::Code;
 use crate::two_words::TwoWords;
 use byteorder::{BigEndian, ByteOrder};
@@ -131,23 +131,16 @@ impl<'a> Bits<'a> {
     }
 }
 
-/// Reads eight bytes at offset `at` as a big-endian number, with zeros past the end, byte by byte. For a few bytes.
+/// Reads the bytes from offset `at` on, at most eight, as a big-endian number of eight bytes, with zeros past the end.
 #[cold]
 #[inline(never)]
 fn read_short(bytes: &[u8], at: usize) -> u64
-    requires { at < 2 ^ 61 }
+    requires some { at < length bytes.now }
+    requires few { length bytes.now ≤ 8 }
     ensures { result ≡ number (padded 64 (drop (8 * at) (bits bytes.now))) }
 {
-    BigEndian::read_u64(&[
-        byte_or_zero(bytes, at),
-        byte_or_zero(bytes, at + 1),
-        byte_or_zero(bytes, at + 2),
-        byte_or_zero(bytes, at + 3),
-        byte_or_zero(bytes, at + 4),
-        byte_or_zero(bytes, at + 5),
-        byte_or_zero(bytes, at + 6),
-        byte_or_zero(bytes, at + 7),
-    ])
+    let count = bytes.len() - at;
+    BigEndian::read_uint(&bytes[at..], count) << (8 * (8 - count))
 }
 
 /// Reads eight bytes at offset `at` as a big-endian number, with zeros past the end. None if there is no byte.
@@ -194,48 +187,40 @@ fn window_of(bytes: &[u8], offset: u64, window: Window, count: u64) -> Option<Wi
 
 /// Decodes the word at the reader's offset, moves the reader past it, and returns its symbol. None if the remaining bits do not
 /// begin with a word. If the bytes end within the word, zeros complete it, and the reader has moved past the end. If `TABLE`, a
-/// word's length is found by the code's table of first bytes, else by comparing.
+/// word's length is found by the code's table of first bytes, else by comparing. If `BYTES`, it is first compared with `above`,
+/// the code's `bytes_above`.
 #[inline(always)]
-pub fn next_endless<const TABLE: bool>(code: &Code, words: &mut EndlessBits) -> Option<u16>
+pub fn next_endless<const TABLE: bool, const BYTES: bool>(
+    code: &Code,
+    above: u64,
+    words: &mut EndlessBits,
+) -> Option<u16>
+    requires { HasBytesAbove code.now above }
     ensures there { IfSome result (λ s. s < code.now.symbols) }
     ensures found { IfSome result (λ s. words.new.past ≡ 0 → (words.old.past ≡ 0) × TakesWord code.now words.old.cursor words.new.cursor s) }
     ensures past { IfSome result (λ _. 0 < words.new.past → BeginsWithNoWord code.now words.old.cursor.left) }
     ensures none { IfNone result (BeginsWithNoWord code.now words.old.cursor.left) }
 {
     let window = window_of(words.bytes, words.offset, words.window, code.longest())?;
-    let length = code.reached_length::<TABLE>(window.bits);
-    let symbol = code.symbol_in(window.bits, length)?;
-    words.offset += length as u64;
+    let word = code.first_word::<TABLE, BYTES>(window.bits, above)?;
+    words.offset += word.length;
     words.window = Window {
-        bits: window.bits << length,
+        bits: word.rest,
         held: window.held,
     };
-    Some(symbol)
+    Some(word.symbol)
 }
 
-/// Decodes the word at the reader's offset, moves the reader past it, and returns its symbol. The remaining bits must begin
-/// with a word.
-#[inline(always)]
-pub fn next_word(code: &Code, words: &mut Bits) -> u16
-    requires { BeginsWithNoWord code.now words.old.left → ⊥ }
-    ensures { TakesWord code.now words.old words.new result }
-{
-    let Some(symbol) = next_endless::<false>(code, &mut words.reader) else {
-        unreachable!()
-    };
-    symbol
-}
-
-/// Decodes the word at the reader's offset, moves the reader past it, and returns its symbol, as `next_word` does, but for any
-/// bits. None if the remaining bits do not begin with a word, or if the word would extend past the bytes; then the reader does
-/// not move. If `TABLE`, a word's length is found by the code's table of first bytes, else by comparing.
+/// Decodes the word at the reader's offset, moves the reader past it, and returns its symbol. None if the remaining bits do not
+/// begin with a word, or if the word would extend past the bytes; then the reader does not move. If `TABLE`, a word's length is
+/// found by the code's table of first bytes, else by comparing.
 #[inline(always)]
 pub fn next_word_if<const TABLE: bool>(code: &Code, words: &mut Bits) -> Option<u16>
     ensures found { IfSome result (λ s. TakesWord code.now words.old words.new s) }
     ensures none { IfNone result (BeginsWithNoWord code.now words.old.left × (words.new ≡ words.old)) }
 {
     let mut moved = words.reader.copied();
-    let symbol = next_endless::<TABLE>(code, &mut moved)?;
+    let symbol = next_endless::<TABLE, false>(code, u64::MAX, &mut moved)?;
     *words = moved.within()?;
     Some(symbol)
 }

@@ -1,5 +1,5 @@
 //! The first two words of a byte, for codes of short words.
-ghost use Rattle.std.specs.Prelude.{◌≡◌, ◌≤◌, IfSome};
+ghost use Rattle.std.specs.Prelude.{◌≤◌, IfSome};
 ghost use Rattle.szg_code.specs.TwoWords.{ContainsTwoWords, HasTwoWords};
 
 use crate::canonical::Code;

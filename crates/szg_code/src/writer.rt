@@ -5,7 +5,6 @@ ghost use Rattle.szg_code.specs.Canonical.{IsWord};
 ghost use Rattle.szg_code.specs.Spelling.{HasNoWord};
 
 use crate::PutFault;
-use crate::bytes::byte_or_zero;
 use crate::canonical::{Code, word};
 use crate::code_word::Word;
 use std::alloc::{AllocError, Global};
@@ -71,7 +70,7 @@ impl BitBuf {
         let whole = (self.count / 8) as usize;
         let used = self.count % 8;
         let length = u64::from(word.length);
-        let partial = u64::from(byte_or_zero(&self.bytes, whole));
+        let partial = u64::from(self.bytes.get(whole).copied().unwrap_or(0));
         let joined = partial << 56 | u64::from(word.number) << (64 - used - length);
         let bytes = ((used + length + 7) / 8) as usize;
         put_bytes(&mut self.bytes, whole, &joined.to_be_bytes()[..bytes])?;

@@ -1,10 +1,7 @@
 //! A run of the program: a command line on a machine's files and on an input and an output.
 ghost use Rattle.std.specs.Prelude.{◌≡◌, IfOk, OnErr, OnOk, map, string_bytes};
 
-use crate::progress::ReadLine;
-use crate::results::{outcome_of, write_results};
 use crate::statuses::{ending_status, status_of};
-use crate::verification::run_verify;
 use std::alloc::{AllocError, Global};
 use std::env::{self, Env};
 use std::io::{self, BufWriter, Read, Write};
@@ -16,6 +13,7 @@ use szg_archive::escaped_path;
 use szg_build::Watcher;
 use szg_files::{Disk, Lock, Monitored};
 use szg_io::{ReadAhead, Std};
+use szg_runs::{Above, ReadLine, verify_words, write_results};
 use szg_verified::Progress;
 use szg_words::{Clap, assumes_win, copies_of, meant_name, probe_of, verification_of};
 
@@ -33,6 +31,16 @@ fn texts_of<'a>(alloc: Global, words: &'a [String]) -> Result<Vec<&'a str>, Allo
         texts.push(word.as_str())?;
     }
     Ok(texts)
+}
+
+/// Returns the outcome of a command that wrote its lines and says whether nothing was refused, or that failed.
+fn outcome_of(written: io::Result<bool>) -> Outcome {
+    match written {
+        Ok(true) => Outcome::Done,
+        Ok(false) => Outcome::Refused,
+        Err(error) if error.kind() == io::ErrorKind::OutOfMemory => Outcome::Memory,
+        Err(_) => Outcome::Device,
+    }
 }
 
 /// The ending of a run after the last flush of the output: a device's failure if the flush failed.
@@ -93,7 +101,10 @@ where
         return status_of(rt, &outcome_of(written));
     }
     match verification_of(rt.alloc(), texts.as_slice()) {
-        Ok(Some(asked)) => return run_verify(rt, machine, &asked, output, watcher),
+        Ok(Some(asked)) => {
+            let verified = verify_words(rt.alloc(), machine, &asked, output, watcher);
+            return status_of(rt, &outcome_of(verified));
+        }
         Ok(None) => {}
         Err(_) => return status_of(rt, &Outcome::Memory),
     }
@@ -115,26 +126,6 @@ where
         let _ = eprintln!(rt; "this is the number of a win: for another class give --class");
     }
     status
-}
-
-/// An output whose lines come above what a terminal shows of reads.
-#[derive(Drop)]
-struct Above<'a, 'b, W, E, C> {
-    output: W,
-    reads: &'a ReadLine<'b, E, C>,
-}
-
-impl<'a, 'b, W: Write, E: Eprint, C: Clock> Write for Above<'a, 'b, W, E, C> {
-    ghost contents = { λ above. W.contents above.output };
-
-    fn write(&mut self, buf: &[u8]) -> io::Result<usize> {
-        self.reads.erase();
-        self.output.write(buf)
-    }
-
-    fn flush(&mut self) -> io::Result<()> {
-        self.output.flush()
-    }
 }
 
 /// Runs the words on a machine's files, on an input and an output; also whether the reader of the output closed it.

@@ -1,7 +1,6 @@
 //! The used men of a part: whether they are the material's, and how they are divided into groups.
 
 ghost use Rattle.std.specs.Prelude.{◌≡◌, ◌<◌, ◌≤◌, ◌+◌, ◌++◌, ◌∷◌, [], ◌==◌, nat_lt, if◌then◌else◌, length, map, sum, IsTrue};
-ghost use Rattle.std.specs.List.{list_all};
 ghost use Rattle.arrayvec.specs.ArrayVec.{array_vec_len};
 ghost use Rattle.szg_values.specs.Material.{IsMaterial, man_codes, count_of, has_pawns, lead_pawn_code, other_pawn_code};
 ghost use Rattle.szg_count.specs.Groups.{is_rearrangement, has_pawns_first, lead_length, groups_of};
@@ -44,14 +43,7 @@ pub fn has_pawns_first(material: &Material, codes: &[u8], men: &[u8]) -> bool
     let (lead, other) = pawn_codes(material, codes);
     let (first, following) = men.split_at(usize::from(material.lead_pawns()));
     let (next, _) = following.split_at(usize::from(material.other_pawns()));
-    are_all(lead, first) && are_all(other, next)
-}
-
-// Returns whether all these men have this code.
-fn are_all(code: u8, men: &[u8]) -> bool
-    ensures { result ≡ list_all (λ man. man == code) men.now }
-{
-    men.iter().all(|man| *man == code)
+    first.iter().all(|man| *man == lead) && next.iter().all(|man| *man == other)
 }
 
 /// Returns the codes of the lead pawns and of the other pawns, for a material with pawns. The first side leads if

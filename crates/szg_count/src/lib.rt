@@ -4,7 +4,7 @@
 
 ghost use Rattle.std.specs.Prelude.{◌≡◌, ◌<◌, ◌≤◌, ◌^◌, length, map, sum, IsNone, IfSome, Ok, Err, Some, slice_get};
 ghost use Rattle.std.specs.List.{range_with_len};
-ghost use Rattle.szg_count.specs.Groups.{order_fault, counted, IsPart, nibble, product, ways_before};
+ghost use Rattle.szg_count.specs.Groups.{order_fault, counted, IsPart, nibble, nibbles_of, product, ways_before};
 ghost use Rattle.szg_count.specs.Views.{nibbles_in, groups_in_slot_order};
 ghost use Rattle.szg_count.specs.Steps.{ArePositive, group_from};
 
@@ -56,8 +56,6 @@ pub struct Order {
 }
 
 impl Order {
-    ghost use Rattle.szg_count.specs.Groups.{nibbles_of};
-
     /// Returns a side's nibbles of a part: the low ones of its order bytes and its man bytes for side 0, the high
     /// ones for side 1. There are at most six man bytes. A second order byte gives the position of the other pawns;
     /// without order bytes the lead group's position is 0.

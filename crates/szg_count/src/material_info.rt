@@ -1,7 +1,7 @@
 //! Facts about a material, computed once for many placements.
 
-ghost use Rattle.std.specs.Prelude.{◌≡◌, ◌<◌, ◌≤◌, ◌^◌, ℕ, length, if◌then◌else◌};
-ghost use Rattle.szg_values.specs.Material.{IsMaterial, has_pawns, lead_pawn_code, man_codes};
+ghost use Rattle.std.specs.Prelude.{◌≡◌, ◌<◌, ◌≤◌, ℕ, length, if◌then◌else◌};
+ghost use Rattle.szg_values.specs.Material.{IsMaterial, is_symmetric, has_pawns, lead_pawns, other_pawns, lead_pawn_code, has_single_lead, man_codes};
 ghost use Rattle.szg_count.specs.Laws.{IsIn};
 ghost use Rattle.szg_count.specs.Facts.{key_of, with_exchanged_halves};
 
@@ -36,10 +36,6 @@ impl Model for MaterialInfo {
 }
 
 impl MaterialInfo {
-    ghost use Rattle.std.specs.Prelude.{◌≡◌, ◌<◌, if◌then◌else◌};
-    ghost use Rattle.szg_values.specs.Material.{IsMaterial, is_symmetric, has_pawns, lead_pawns, other_pawns, lead_pawn_code, has_single_lead, man_codes};
-    ghost use Rattle.szg_count.specs.Facts.{key_of, with_exchanged_halves};
-
     /// Computes the facts about a material.
     pub fn of(material: &Material) -> MaterialInfo
         ensures same { result ≡ material.now }

@@ -3,16 +3,14 @@ ghost use Rattle.std.specs.Prelude.{◌≡◌, ◌<◌, ◌^◌, ◌↔◌, IsTr
 ghost use Rattle.std.specs.List.{AllByRecursion};
 ghost use Rattle.szg_file.specs.Accepted.{SideBySide, IsPart, IsAccepted};
 ghost use Rattle.szg_file.specs.Assembled.{fields_shown};
-ghost use Rattle.szg_file.specs.Contents.{slots, part_slots, part_numbers, side_numbers};
+ghost use Rattle.szg_file.specs.Contents.{slots, part_numbers};
 ghost use Rattle.szg_file.specs.FileOf.{fill_asked};
 ghost use Rattle.szg_file.specs.Held.{part_of};
-ghost use Rattle.szg_file.specs.Parts.{part_with, slots_with};
 ghost use Rattle.szg_file.specs.Sections.{contents_in};
-ghost use Rattle.szg_count.specs.Groups as count;
 
 use crate::begun::Slot;
 use crate::passing::{are_maps_valid, are_subs_valid};
-use crate::reading::parts::{Parts, order_count, part_count, part_sizes, push_slots};
+use crate::reading::parts::{Parts, order_count, part_count, push_slots};
 use crate::reading::start::{pawns_as, splits_as};
 use crate::table::{Map, PartBytes, Table};
 use crate::table_index::index_of_subs;
@@ -121,11 +119,9 @@ fn slots_of(material: &Material, kind: Kind, parts: &[PartBytes]) -> Option<Arra
         }
         bytes_fit(order);
         bytes_fit(men);
-        let sizes = match part_sizes(material, kind, n as u8, 0, order, men) {
-            Ok(sizes) => sizes,
-            Err(_) => return None,
+        let Ok(()) = push_slots(material, kind, n as u8, 0, order, men, &mut list) else {
+            return None;
         };
-        push_slots(&mut list, n as u8, sizes);
     }
     Some(list)
 }

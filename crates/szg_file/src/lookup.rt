@@ -1,14 +1,12 @@
 //! Finding a subtable of a table, and its flags.
-ghost use Rattle.std.specs.Prelude.{◌≡◌, ◌<◌, ◌≤◌, ◌&&◌, nat_eq, position, length, MatchOption, Some, None};
+ghost use Rattle.std.specs.Prelude.{◌≡◌, ◌<◌, ◌&&◌, nat_eq, position};
 ghost use Rattle.szg_file.specs.Values.{constant_value as constant_of};
 ghost use Rattle.szg_file.specs.Contents.{has_bit};
 ghost use Rattle.szg_file.specs.File.{flags_of as flags_byte};
 ghost use Rattle.szg_file.specs.Held.{subtable_of};
 ghost use Rattle.szg_file.specs.Lookup.{byte_of};
-ghost use Rattle.szg_file.specs.Placed.{IsSlotted};
 
 use crate::begun::Slot;
-use crate::reading::dropping::PlacedSub;
 use szg_block::Sub;
 use szg_values::Kind;
 
@@ -17,13 +15,6 @@ use szg_values::Kind;
 pub struct SizedSubtable<'a> {
     pub size: u64,
     pub sub: &'a Sub,
-}
-
-/// A subtable without its blocks, with its slot.
-#[derive(Clone, Copy)]
-pub struct Slotted<'a> {
-    pub slot: Slot,
-    pub placed: &'a PlacedSub,
 }
 
 /// Returns the number of the slot of a part and side, from 0. It compares all slots, from the last to the first, and branches
@@ -53,23 +44,6 @@ pub fn constant_value(kind: Kind, sub: &Sub) -> u16
         (Kind::Wdl, Sub::Constant { byte, .. }) => u16::from(*byte),
         _ => 0,
     }
-}
-
-/// Returns the first slot of a part and side, with its subtable.
-pub(crate) fn slotted_at<'a>(
-    slots: &[Slot],
-    subs: &'a [PlacedSub],
-    part: u8,
-    side: u8,
-) -> Option<Slotted<'a>>
-    requires { length slots.now ≤ length subs.now }
-    ensures { MatchOption result (position (λ slot. nat_eq slot.part part && nat_eq slot.side side) slots.now ≡ None) (λ found. IsSlotted slots.now subs.now part side found.slot found.placed.now) }
-{
-    let n = slot_number(slots, part, side)?;
-    Some(Slotted {
-        slot: slots[n],
-        placed: &subs[n],
-    })
 }
 
 /// Returns the flag byte of a subtable.

@@ -11,14 +11,14 @@ ghost use Rattle.szg_file.specs.Format.{verdict};
 ghost use Rattle.szg_file.specs.Opened.{table_in, opened_fault, IsOpenRefusal};
 
 use crate::fault::{ReadFault, Reason};
-use crate::lookup::{Slotted, constant_value, slotted_at};
+use crate::lookup::constant_value;
 use crate::opened::forward::Forward;
 use crate::reading::blocks::block_bytes;
 use crate::reading::dropping::PlacedSub;
 use crate::reading::read_outline;
 use crate::reading::sink::NoSink;
 use crate::reading::state::ReaderState;
-use crate::table_index::{TableIndex, index_of_placed};
+use crate::table_index::{Numbered, TableIndex, index_of_placed};
 use std::alloc::Global;
 use std::marker::Model;
 use szg_block::{Paged, Source, SourceFault, block_count, look_up};
@@ -110,10 +110,11 @@ impl<S: Source + Drop> Opened<S> {
         ensures kind { self.new.kind ≡ self.old.kind }
         ensures content { self.new.content ≡ self.old.content }
     {
-        let Some(found) = slotted_at(self.index.slots(), &self.subs, part, side) else {
+        let Some(found) = self.index.find(part, side) else {
             unreachable!()
         };
-        let Slotted { slot, placed: held } = found;
+        let Numbered { number, slot } = found;
+        let held = &self.subs[number];
         let constant = constant_value(self.index.kind(), &held.sub);
         self.blocks.select_blocks(
             held.first,

@@ -1,6 +1,6 @@
 //! Checks of assembled subtables and maps, as a reader makes them.
-ghost use Rattle.std.specs.Prelude.{◌<◌, ◌^◌, ◌↔◌, IsTrue, length, map, option_map};
-ghost use Rattle.szg_file.specs.Accepted.{SideBySide, AreNumbers, IsSubtable, AreLists, IsMapOf, AreMaps};
+ghost use Rattle.std.specs.Prelude.{◌<◌, ◌↔◌, IsTrue, length, map, option_map};
+ghost use Rattle.szg_file.specs.Accepted.{SideBySide, IsSubtable, AreLists, IsMapOf, AreMaps};
 ghost use Rattle.szg_file.specs.Held.{subtable_of, map_of};
 
 use crate::begun::Slot;
@@ -12,20 +12,6 @@ use szg_values::Kind;
 
 // ---- subtables
 
-/// Returns whether a subtable passes the checks of a slot.
-fn is_sub_valid(slot: &Slot, sub: &Sub) -> bool
-    ensures { IsTrue result ↔ IsSubtable slot.now (subtable_of sub.now) }
-{
-    sub_fits(sub);
-    if !shaped(sub, slot.size) {
-        return false;
-    }
-    match check(sub, slot.size) {
-        Ok(()) => true,
-        Err(_) => false,
-    }
-}
-
 /// Returns whether there is one subtable per slot, and each passes its checks.
 pub(crate) fn are_subs_valid(slots: &[Slot], subs: &[Sub]) -> bool
     ensures { IsTrue result ↔ SideBySide IsSubtable slots.now (map subtable_of subs.now) }
@@ -34,9 +20,14 @@ pub(crate) fn are_subs_valid(slots: &[Slot], subs: &[Sub]) -> bool
         return false;
     }
     'subs: for (n, sub) in subs.iter().enumerate() {
-        if !is_sub_valid(&slots[n], sub) {
+        let slot = &slots[n];
+        sub_fits(sub);
+        if !shaped(sub, slot.size) {
             return false;
         }
+        let Ok(()) = check(sub, slot.size) else {
+            return false;
+        };
     }
     true
 }

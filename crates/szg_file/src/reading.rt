@@ -8,7 +8,6 @@ pub(crate) mod parts;
 pub(crate) mod sink;
 pub(crate) mod start;
 pub(crate) mod state;
-mod streaming;
 mod taking;
 
 ghost use Rattle.std.specs.Prelude.{◌≡◌, ℕ, ◌+◌, ◌*◌, ◌^◌, ◌≤◌, ◌<◌, List, length, map, IfSome, IfOk, OnOk, IsErrOf, IsTrue, []};

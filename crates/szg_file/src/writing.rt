@@ -11,10 +11,11 @@ ghost use Rattle.szg_file.specs.Held.{file_bytes};
 
 use crate::fault::WriteFault;
 use crate::table::Table;
-use crate::writing::outgoing::flush;
+use crate::writing::outgoing::{Outgoing, flush};
 use crate::writing::sections::put_sections;
 use crate::writing::tally::Tally;
 use crate::writing::writer::Writer;
+use arrayvec::ArrayVec;
 use szg_io::Output;
 
 /// Writes the table's file. Errors: the writer failed, with the number of bytes of the file that were written.
@@ -26,7 +27,15 @@ pub fn write<W: Output>(table: &Table, output: &mut W) -> Result<(), WriteFault>
     ensures quiet { OnOk result (W.failures output.new ≡ W.failures output.old) }
 {
     bounded(table);
-    let mut writer = Writer::new(&table.filled);
+    let outgoing = Outgoing {
+        out: 0,
+        held: ArrayVec::new(),
+        fill: &table.filled,
+    };
+    let mut writer = Writer {
+        outgoing,
+        result: Ok(()),
+    };
     put_sections(&table.fields(), &mut writer, output);
     writer.result?;
     flush(output, &mut writer.outgoing)

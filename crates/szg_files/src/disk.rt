@@ -146,10 +146,10 @@ impl<'a, R: Files, P: ReadWatcher> Disk<'a, R, P> {
         }
         let file = self.open_with_room(path)?;
         let path = String::from_str(self.alloc, path)?;
-        match self.kept.push(KeptFile { path, file }) {
-            Ok(()) => Ok(self.kept.len() - 1),
-            Err(_) => Err(FileFault::Memory),
-        }
+        self.kept
+            .push(KeptFile { path, file })
+            .map_err(AllocError::from)?;
+        Ok(self.kept.len() - 1)
     }
 }
 

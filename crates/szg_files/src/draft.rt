@@ -11,11 +11,11 @@ ghost use Rattle.szg_files.specs.Monitored.{written_of};
 ghost use Rattle.szg_files.specs.Draft.{text_of, draft_target, sealed_text, sealed_target, published_text, published_target};
 
 use crate::file_system::FileFault;
+use crate::folders::node_of;
 use crate::monitored::Monitored;
 use std::alloc::{AllocError, Global};
 use std::fs::{self, File, FileTimes, Metadata, OpenFile, OpenOptions};
 use std::io::{self, BufWriter, Error, ErrorKind, Write};
-use std::os::unix::fs::MetadataExt;
 use std::rt::Files;
 use szg_io::{Past, Std};
 
@@ -101,8 +101,7 @@ where
     }
     let file = fs::open(files, path)?;
     file.try_lock()?;
-    let (opened, found) = (file.metadata()?, files.symlink_metadata(path)?);
-    if opened.dev() != found.dev() || opened.ino() != found.ino() {
+    if node_of(&file.metadata()?) != node_of(&files.symlink_metadata(path)?) {
         return Ok(false);
     }
     files.remove_file(path)?;
@@ -139,9 +138,7 @@ where
     R::File: Lock,
 {
     'names: for number in 0..NAMES {
-        let Ok(path) = path_beside(alloc, target, number) else {
-            return Err(FileFault::Memory);
-        };
+        let path = path_beside(alloc, target, number)?;
         if let Some(file) = create_locked(files, path.as_str())? {
             return Ok((file, path));
         }
@@ -176,16 +173,12 @@ impl<'a, R: Files> Draft<'a, R> {
             path,
             target,
         };
-        match BufWriter::with_capacity(alloc, BUFFER, Monitored::new(file)) {
-            Ok(writer) => Ok(Draft {
-                file: Std::new(writer),
-                renaming,
-            }),
-            Err(_) => {
-                renaming.remove();
-                Err(FileFault::Memory)
-            }
-        }
+        let Ok(writer) = BufWriter::with_capacity(alloc, BUFFER, Monitored::new(file)) else {
+            renaming.remove();
+            return Err(FileFault::Memory);
+        };
+        let file = Std::new(writer);
+        Ok(Draft { file, renaming })
     }
 
     /// Removes the temporary file.
@@ -227,18 +220,17 @@ fn flushed<F: Write + OpenFile + Drop>(
 ) -> Result<Monitored<F>, FileFault>
     ensures { IfOk result (λ flushed. written_of flushed ≡ text_of file) }
 {
-    match file.into_inner().into_inner() {
-        Ok(monitored) => {
-            if let Some(like) = like {
-                let file = monitored.inner();
-                file.set_permissions(like.permissions())?;
-                file.set_times(FileTimes::new().set_modified(like.modified()?))?;
-            }
-            monitored.inner().sync_all()?;
-            Ok(monitored)
-        }
-        Err(stopped) => Err(FileFault::System(stopped.into_error())),
+    let monitored = match file.into_inner().into_inner() {
+        Ok(monitored) => monitored,
+        Err(stopped) => return Err(FileFault::System(stopped.into_error())),
+    };
+    let file = monitored.inner();
+    if let Some(like) = like {
+        file.set_permissions(like.permissions())?;
+        file.set_times(FileTimes::new().set_modified(like.modified()?))?;
     }
+    file.sync_all()?;
+    Ok(monitored)
 }
 
 impl<'a, R: Files> Sealed<'a, R> {
@@ -262,19 +254,15 @@ impl<'a, R: Files> Sealed<'a, R> {
         ensures target { IfOk result (λ published. published_target published ≡ sealed_target self.entry) }
     {
         let Sealed { file, renaming } = self;
-        match renaming
+        if let Err(error) = renaming
             .files
             .rename(renaming.path.as_str(), renaming.target)
         {
-            Ok(()) => {
-                let written = file.into_written();
-                let target = renaming.target;
-                Ok(Published { target, written })
-            }
-            Err(error) => {
-                renaming.remove();
-                Err(FileFault::System(error))
-            }
+            renaming.remove();
+            return Err(FileFault::System(error));
         }
+        let written = file.into_written();
+        let target = renaming.target;
+        Ok(Published { target, written })
     }
 }

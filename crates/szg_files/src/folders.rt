@@ -32,27 +32,18 @@ pub struct Below {
     pub finding: Finding,
 }
 
-/// Which folder it is, whatever its path: its device, and its number there.
-#[derive(Clone, Copy, PartialEq, Eq)]
-struct FolderId {
-    device: u64,
-    number: u64,
-}
+/// Which file or folder it is, whatever its path: its device, and its number there.
+type NodeId = (u64, u64);
 
-impl FolderId {
-    fn of(metadata: &Metadata) -> FolderId {
-        FolderId {
-            device: metadata.dev(),
-            number: metadata.ino(),
-        }
-    }
+pub(crate) fn node_of(metadata: &Metadata) -> NodeId {
+    (metadata.dev(), metadata.ino())
 }
 
 /// A folder that is to be read.
 #[derive(Drop)]
 struct Folder {
     path: String,
-    node: FolderId,
+    node: NodeId,
     /// The number of the folder in which it was found. None of the first one.
     parent: Option<usize>,
 }
@@ -64,7 +55,7 @@ struct FolderWalk<'a, R: Files> {
     files: &'a R,
     folders: Vec<Folder>,
     /// The folders that links led to.
-    followed: Vec<FolderId>,
+    followed: Vec<NodeId>,
     found: Vec<Below>,
 }
 
@@ -84,18 +75,15 @@ pub fn files_below<R: Files>(
     };
     let path = String::from_str(alloc, folder.trim_end_matches('/'))?;
     match files.metadata(folder) {
-        Ok(metadata) => walk.folders.push(Folder {
-            path,
-            node: FolderId::of(&metadata),
-            parent: None,
-        })?,
-        Err(error) => walk.add(path, Finding::Unread(FileFault::System(error)))?,
+        Ok(metadata) => walk.enter(None, path, node_of(&metadata), false)?,
+        Err(error) => walk.add(path, Finding::Unread(error.into()))?,
     }
     'folders: for number in 0..usize::MAX {
-        if number >= walk.folders.len() {
+        let Some(folder) = walk.folders.get(number) else {
             break;
-        }
-        walk.read(number)?;
+        };
+        let path = folder.path.clone()?;
+        walk.read(number, path)?;
     }
     let mut found = walk.found;
     found.sort_by(|one, other| one.path.as_bytes().cmp(other.path.as_bytes()))?;
@@ -108,12 +96,8 @@ impl<'a, R: Files> FolderWalk<'a, R> {
         Ok(self.found.push(Below { path, finding })?)
     }
 
-    /// Reads a folder.
-    fn read(&mut self, number: usize) -> Result<(), AllocError> {
-        let Some(folder) = self.folders.get(number) else {
-            return Ok(());
-        };
-        let path = folder.path.clone()?;
+    /// Reads a folder, whose path this is.
+    fn read(&mut self, number: usize, path: String) -> Result<(), AllocError> {
         let names = match names_in(self.alloc, self.files, path.as_str()) {
             Ok(names) => names,
             Err(FileFault::Memory) => return Err(AllocError),
@@ -133,31 +117,28 @@ impl<'a, R: Files> FolderWalk<'a, R> {
 
     /// Looks at a path in a folder.
     fn look_at(&mut self, parent: usize, path: String) -> Result<(), AllocError> {
-        let itself = match self.files.symlink_metadata(path.as_str()) {
-            Ok(metadata) => metadata,
-            Err(error) => return self.add(path, Finding::Unread(FileFault::System(error))),
+        let itself = self.files.symlink_metadata(path.as_str());
+        let is_link = matches!(&itself, Ok(metadata) if metadata.is_symlink());
+        let target = if is_link {
+            self.files.metadata(path.as_str())
+        } else {
+            itself
         };
-        if itself.is_dir() {
-            return self.enter(parent, path, FolderId::of(&itself), false);
-        }
-        if !itself.is_symlink() {
-            return self.add(path, Finding::File);
-        }
-        match self.files.metadata(path.as_str()) {
-            Ok(target) if target.is_dir() => {
-                self.enter(parent, path, FolderId::of(&target), true)
+        match target {
+            Ok(folder) if folder.is_dir() => {
+                self.enter(Some(parent), path, node_of(&folder), is_link)
             }
             Ok(_) => self.add(path, Finding::File),
-            Err(error) => self.add(path, Finding::Unread(FileFault::System(error))),
+            Err(error) => self.add(path, Finding::Unread(error.into())),
         }
     }
 
     /// Takes a folder that is to be read, unless it is within itself, or it is a link to a folder that another link led to.
     fn enter(
         &mut self,
-        parent: usize,
+        parent: Option<usize>,
         path: String,
-        node: FolderId,
+        node: NodeId,
         is_link: bool,
     ) -> Result<(), AllocError> {
         if self.is_within(parent, node) {
@@ -169,18 +150,12 @@ impl<'a, R: Files> FolderWalk<'a, R> {
             }
             self.followed.push(node)?;
         }
-        Ok(
-            self.folders.push(Folder {
-                path,
-                node,
-                parent: Some(parent),
-            })?,
-        )
+        Ok(self.folders.push(Folder { path, node, parent })?)
     }
 
     /// Whether a folder is this node, or was found below it.
-    fn is_within(&self, number: usize, node: FolderId) -> bool {
-        let mut next = Some(number);
+    fn is_within(&self, folder: Option<usize>, node: NodeId) -> bool {
+        let mut next = folder;
         'parents: for _ in 0..self.folders.len() {
             let Some(number) = next else {
                 return false;
@@ -216,16 +191,10 @@ fn names_in<R: Files>(alloc: Global, files: &R, folder: &str) -> Result<Vec<Vec<
 
 /// Adds the names of a chunk, of which each is followed by a zero byte.
 fn add_names(alloc: Global, chunk: &[u8], names: &mut Vec<Vec<u8>>) -> Result<(), AllocError> {
-    let mut name = Vec::new(alloc);
-    'bytes: for byte in chunk {
-        if *byte != 0 {
-            name.push(*byte)?;
-            continue;
+    'names: for name in chunk.split(|byte| *byte == 0) {
+        if !matches!(name, b"" | b"." | b"..") {
+            names.push(Vec::from_slice(alloc, name)?)?;
         }
-        if name.as_slice() != b".".as_slice() && name.as_slice() != b"..".as_slice() {
-            names.push(name)?;
-        }
-        name = Vec::new(alloc);
     }
     Ok(())
 }

@@ -52,21 +52,17 @@ impl<T: Read> Read for Monitored<T> {
     ghost remaining = { λ s. T.remaining s.inner };
 
     fn read(&mut self, buf: &mut [u8]) -> io::Result<usize> {
-        let answer = self.inner.read(buf);
-        if let Err(error) = answer {
-            self.error = Some(error);
-        }
-        answer
+        self.inner
+            .read(buf)
+            .inspect_err(|error| self.error = Some(*error))
     }
 }
 
 impl<T: Seek> Seek for Monitored<T> {
     fn seek(&mut self, to: SeekFrom) -> io::Result<u64> {
-        let answer = self.inner.seek(to);
-        if let Err(error) = answer {
-            self.error = Some(error);
-        }
-        answer
+        self.inner
+            .seek(to)
+            .inspect_err(|error| self.error = Some(*error))
     }
 }
 
@@ -74,23 +70,17 @@ impl<T: Write> Write for Monitored<T> {
     ghost contents = { λ s. Some s.written.bytes };
 
     fn write(&mut self, buf: &[u8]) -> io::Result<usize> {
-        match self.inner.write(buf) {
-            Ok(count) => {
-                self.written = self.written.append(&buf, &count);
-                Ok(count)
-            }
-            Err(error) => {
-                self.error = Some(error);
-                Err(error)
-            }
-        }
+        let count = self
+            .inner
+            .write(buf)
+            .inspect_err(|error| self.error = Some(*error))?;
+        self.written = self.written.append(&buf, &count);
+        Ok(count)
     }
 
     fn flush(&mut self) -> io::Result<()> {
-        let answer = self.inner.flush();
-        if let Err(error) = answer {
-            self.error = Some(error);
-        }
-        answer
+        self.inner
+            .flush()
+            .inspect_err(|error| self.error = Some(*error))
     }
 }

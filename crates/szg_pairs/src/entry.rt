@@ -13,7 +13,9 @@ const LEAF: u16 = 0xfff;
 pub fn left(entry: [u8; 3]) -> u16
     ensures { result ≡ left_of entry }
 {
-    LittleEndian::read_u16(&[entry[0], entry[1] % 0x10])
+    // A fact that the proof uses: the low byte is a byte.
+    prove!(entry[0] <= 255);
+    LittleEndian::read_u16(&entry) % 0x1000
 }
 
 /// Returns the right number of an entry, 0 to 4095: 4095 for a leaf, else the second symbol of a pair. These are

@@ -11,7 +11,6 @@ use szg_file::MapFault;
 use thiserror::Error;
 
 pub mod free_squares;
-mod group_ranks;
 pub mod kings;
 pub mod laws;
 pub mod lead_pawns;

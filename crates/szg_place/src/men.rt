@@ -1,10 +1,9 @@
 //! The men of a placement as a file codes them: which colour is the first side of the table's name (before the `v`),
 //! and each man's code and square.
 
-ghost use Rattle.std.specs.Prelude.{◌≡◌, ◌<◌, ◌&&◌, true, false, IfNone, IfSome, if◌then◌else◌};
+ghost use Rattle.std.specs.Prelude.{◌≡◌, true, false, IfNone, IfSome, if◌then◌else◌};
 ghost use Rattle.szg_values.specs.Men.{is_color};
-ghost use Rattle.szg_values.specs.Material.{is_symmetric};
-ghost use Rattle.szg_place.specs.Normal.{is_exchanged, exchanged_color, flip_rank};
+ghost use Rattle.szg_place.specs.Normal.{is_exchanged, exchanged_color};
 ghost use Rattle.szg_place.specs.Slots.{piece_from};
 ghost use Rattle.szg_place.specs.Spots.{is_of_material};
 
@@ -38,7 +37,7 @@ pub(crate) fn exchange_of(material: &MaterialInfo, placement: &PlacedMen<'_>) ->
     if key != material.key_if(key != own) {
         return None;
     }
-    let symmetric_with_black = is_symmetric_with_black_to_move(material, placement);
+    let symmetric_with_black = material.symmetric() & (placement.mover() == Color::Black);
     Some((key != own) | symmetric_with_black)
 }
 
@@ -50,13 +49,6 @@ pub fn has_men_of(index: &TableIndex, placement: &PlacedMen<'_>) -> bool
     exchange_of(index.material_info(), placement).is_some()
 }
 
-// Returns whether both sides have the same men and Black is to move.
-fn is_symmetric_with_black_to_move(material: &MaterialInfo, placement: &PlacedMen<'_>) -> bool
-    ensures { result ≡ (is_symmetric material.now && is_color Color.Black placement.now.mover) }
-{
-    material.symmetric() && placement.mover() == Color::Black
-}
-
 /// Returns the side to move as the table numbers sides: 0 if it is the name's first side, else 1.
 pub(crate) fn moving_side(exchanged: bool, mover: Color) -> u8
     ensures { result ≡ (if is_color Color.White (exchanged_color exchanged mover) then 0 else 1) }
@@ -65,20 +57,12 @@ pub(crate) fn moving_side(exchanged: bool, mover: Color) -> u8
 }
 
 /// Returns a man as the file codes it, with colours exchanged if `exchanged` and its rank flipped if `flips`. Colours are
-/// numbered 0 and 1, so an exclusive or exchanges them.
+/// numbered 0 and 1, so an exclusive or exchanges them; one with 56 flips a rank. No branch is needed.
 pub(crate) fn coded_man(man: &(Man, Color, Square), exchanged: bool, flips: bool) -> CodedMan
     ensures { result ≡ piece_from exchanged flips man.now }
 {
     CodedMan {
         code: man.0.code() + 8 * (man.1 as u8 ^ u8::from(exchanged)),
-        square: ranked_if(flips, man.2.number()),
+        square: man.2.number() ^ 56 * u8::from(flips),
     }
-}
-
-// Returns a square, its rank flipped if `flips`, without a branch.
-fn ranked_if(flips: bool, square: u8) -> u8
-    requires { square < 64 }
-    ensures { result ≡ (if flips then flip_rank square else square) }
-{
-    square ^ 56 * u8::from(flips)
 }

@@ -1,10 +1,12 @@
 //! Probes: the class or the DTZ number of a placement, wherever the table's blocks are.
 
-ghost use Rattle.std.specs.Prelude.{◌≡◌, ◌≤ℤ◌, pos, neg_ℤ, IsNone, IfSome, Err};
-ghost use Rattle.szg_file.specs.Index.{slot_in};
-ghost use Rattle.szg_place.specs.Probes.{IsMeant, as_class, as_number};
+ghost use Rattle.std.specs.Prelude.{ℕ, ◌≡◌, ◌<◌, ◌≤ℤ◌, pos, neg_ℤ, IsNone, IfErr, IfOk, IfSome, IsSomeAnd, Err, Some};
+ghost use Rattle.szg_file.specs.FrontTable.{IsFrontOf};
+ghost use Rattle.szg_file.specs.Index.{Index, index_of, slot_in};
+ghost use Rattle.szg_place.specs.declared.Spot.{Spot};
+ghost use Rattle.szg_place.specs.Probes.{IsBadAt, IsMeant, IsValueAt, as_class, as_number};
 ghost use Rattle.szg_place.specs.Spots.{place_fault, spot_of};
-ghost use Rattle.szg_place.specs.Tables.{class_of, numbering_in};
+ghost use Rattle.szg_place.specs.Tables.{class_of, numbering_in, value_at};
 
 use crate::spots::locate;
 use crate::{PlaceFault, Spot};
@@ -26,10 +28,6 @@ pub enum Unprobed<F> {
 
 /// The values of a table, wherever its blocks are.
 pub trait Values {
-    ghost use Rattle.std.specs.Prelude.{ℕ, ◌≡◌, ◌<◌, IfErr, IfOk, IsSomeAnd};
-    ghost use Rattle.szg_file.specs.Index.{Index, slot_in};
-    ghost use Rattle.szg_place.specs.declared.Spot.{Spot};
-
     /// Why a value is not fetched.
     type Fault;
 
@@ -55,10 +53,6 @@ pub trait Values {
 }
 
 impl<'a> Values for &'a Table {
-    ghost use Rattle.std.specs.Prelude.{◌≡◌, Some};
-    ghost use Rattle.szg_file.specs.Index.{index_of};
-    ghost use Rattle.szg_place.specs.Tables.{value_at};
-
     type Fault = Infallible;
 
     ghost index_in = { λ t. index_of t.now.contents };
@@ -90,9 +84,6 @@ pub struct FrontBytes<'a> {
 }
 
 impl<'a> Values for FrontBytes<'a> {
-    ghost use Rattle.szg_file.specs.FrontTable.{IsFrontOf};
-    ghost use Rattle.szg_place.specs.Probes.{IsBadAt, IsValueAt};
-
     type Fault = FetchFault;
 
     ghost index_in = { λ f. f.front.now.index };

@@ -28,12 +28,9 @@ pub(crate) fn is_wrong_side(
 ) -> bool
     ensures { result ≡ is_wrong_side (layout_in kind material.now [] flags.now) part queried }
 {
-    match kind {
-        Kind::Wdl => false,
-        Kind::Dtz => {
-            !(material.symmetric() && !material.has_pawns()) && stored_side(flags, part) != queried
-        }
-    }
+    matches!(kind, Kind::Dtz)
+        && !(material.symmetric() && !material.has_pawns())
+        && stored_side(flags, part) != queried
 }
 
 /// Returns the side to move whose values a DTZ table stores for a part: the lowest bit of the part's flags; 0 if it has

@@ -1,23 +1,27 @@
 //! The placement of an index, and the squares of its men, group by group.
 
-ghost use Rattle.std.specs.Prelude.{◌≡◌, ◌+◌, ◌++◌, ◌<◌, ◌≤◌, ◌==◌, ◌&&◌, ℕ, List, [], length, None, IsNone, IsSome, IfSome, Ok, Err, if◌then◌else◌};
+ghost use Rattle.std.specs.Prelude.{◌≡◌, ◌+◌, ◌++◌, ◌<◌, ◌≤◌, ◌==◌, ◌&&◌, ℕ, List, [], length, None, IsNone, IsSome, IfSome, Ok, Err, Some, slice_get, if◌then◌else◌};
 ghost use Rattle.std.specs.List.{concat, zip};
 ghost use Rattle.arrayvec.specs.ArrayVec.{array_vec_len};
 ghost use Rattle.szg_count.specs.Groups.{IsPart, Nibbles, order_fault, counted, product};
 ghost use Rattle.szg_count.specs.Laws.{IsIn};
-ghost use Rattle.szg_count.specs.Views.{groups_in_slot_order, nibbles_in};
+ghost use Rattle.szg_count.specs.Views.{groups_in_slot_order};
 ghost use Rattle.szg_file.specs.Index.{slot_in};
 ghost use Rattle.szg_values.specs.Material.{has_pawns, is_symmetric};
 ghost use Rattle.szg_values.specs.Placement.{PlacedMan};
+ghost use Rattle.szg_place.specs.Known.{ComesAfterGroups};
 ghost use Rattle.szg_place.specs.Layout.{is_dtz};
-ghost use Rattle.szg_place.specs.Spots.{board_at, men_by_group, men_on_squares, placement_refusal, ranks_of_index, squares_of_ranks};
+ghost use Rattle.szg_place.specs.Spots.{board_at, men_on_squares, ordered_sets, placement_refusal, ranks_of_index, squares_of_ranks};
 ghost use Rattle.szg_place.specs.Tables.{numbering_in};
 
-use crate::group_ranks::unrank_group;
+use crate::free_squares::unrank_free_squares;
+use crate::kings::unrank_kings;
+use crate::lead_pawns::unrank_lead_pawns;
 use crate::stored_side::{side_in, stored_side};
+use crate::triples::unrank_triple;
 use crate::{PlaceFault, Spot};
 use arrayvec::ArrayVec;
-use szg_count::{Groups, MaterialInfo, Order};
+use szg_count::{MaterialInfo, SideGroups};
 use szg_file::TableIndex;
 use szg_values::{Color, Kind, MAX_MEN, Man, Placement, Square};
 
@@ -44,41 +48,13 @@ pub fn placement(index: &TableIndex, spot: Spot) -> Result<Placement, PlaceFault
     if has_no_placements(material, kind, stored) {
         return Err(PlaceFault::WrongSide);
     }
-    let men = men_at(
-        material,
-        spot.part,
-        &grouped.order,
-        &grouped.groups,
-        spot.index,
-    );
+    let squares = squares_at(material, spot.part, grouped, spot.index);
+    let men = men_on_squares(grouped.order.men.as_slice(), squares.as_slice());
     let mover = mover_at(material, kind, stored, spot.side);
     let Ok(placement) = Placement::new(men.as_slice(), mover) else {
         unreachable!()
     };
     Ok(placement)
-}
-
-// Returns the men of an index, slot by slot.
-fn men_at(
-    material: &MaterialInfo,
-    part: u8,
-    order: &Order,
-    groups: &Groups,
-    index: u64,
-) -> ArrayVec<(Man, Color, Square), MAX_MEN>
-    ghost given: { Nibbles }
-    requires part { IsPart material.now part }
-    requires nibbles { nibbles_in order.now ≡ given }
-    requires ordered { order_fault material.now given ≡ None }
-    requires groups { groups.now ≡ groups_in_slot_order (counted material.now part given) }
-    requires below { index < product (counted material.now part given).ways }
-    requires inside { (placed_men : PlacedMan) → IsIn placed_men (men_by_group (counted material.now part given).groups (squares_of_ranks material.now part [] (zip (counted material.now part given).groups (ranks_of_index (counted material.now part given) index)))) → placed_men.2 < 64 }
-    ensures { result.items ≡ men_by_group (counted material.now part given).groups (squares_of_ranks material.now part [] (zip (counted material.now part given).groups (ranks_of_index (counted material.now part given) index))) }
-{
-    // for proofs alone: a material is the men of a name
-    let _ = material.material();
-    let squares = squares_at(material, part, groups, index);
-    men_on_squares(order.men.as_slice(), squares.as_slice())
 }
 
 // Returns men with these codes on these squares.
@@ -103,10 +79,7 @@ fn men_on_squares(codes: &[u8], squares: &[u8]) -> ArrayVec<(Man, Color, Square)
 fn has_no_placements(material: &MaterialInfo, kind: Kind, stored: u8) -> bool
     ensures { result ≡ (is_dtz kind && is_symmetric material.now && has_pawns material.now && stored == 1) }
 {
-    match kind {
-        Kind::Wdl => false,
-        Kind::Dtz => material.symmetric() && material.has_pawns() && stored == 1,
-    }
+    matches!(kind, Kind::Dtz) && material.symmetric() && material.has_pawns() && stored == 1
 }
 
 // Returns the colour to move: White if both sides have the same men; otherwise White for side 0 and Black for side 1.
@@ -121,17 +94,17 @@ fn mover_at(material: &MaterialInfo, kind: Kind, stored: u8, side: u8) -> Color
     }
 }
 
-/// Returns the men's squares in the placement of an index, group by group.
-pub fn squares_at(
+// Returns the men's squares in the placement of an index, group by group.
+fn squares_at(
     material: &MaterialInfo,
     part: u8,
-    groups: &Groups,
+    grouped: &SideGroups,
     index: u64,
 ) -> ArrayVec<u8, MAX_MEN>
     ghost given: { Nibbles × List (List ℕ) }
     requires part { IsPart material.now part }
     requires ordered { order_fault material.now given.0 ≡ None }
-    requires groups { groups.now ≡ groups_in_slot_order (counted material.now part given.0) }
+    requires groups { grouped.now.groups ≡ groups_in_slot_order (counted material.now part given.0) }
     requires below { index < product (counted material.now part given.0).ways }
     requires stated { given.1 ≡ squares_of_ranks material.now part [] (zip (counted material.now part given.0).groups (ranks_of_index (counted material.now part given.0) index)) }
     requires few { length (concat given.1) ≤ 6 }
@@ -139,6 +112,7 @@ pub fn squares_at(
 {
     // for proofs alone: a material is the men of a name
     let _ = material.material();
+    let groups = &grouped.groups;
     let mut squares = ArrayVec::new();
     for i in 0..groups.count() {
         let group = groups.group(i);
@@ -147,6 +121,47 @@ pub fn squares_at(
         append(&mut squares, set.as_slice());
     }
     squares
+}
+
+// Returns the squares of set `number` in a group's ordered list. `group` is the group's number in slot order, `taken`
+// has the squares of the groups before it.
+fn unrank_group(
+    material: &MaterialInfo,
+    part: u8,
+    group: usize,
+    taken: &[u8],
+    size: u8,
+    number: u64,
+) -> ArrayVec<u8, MAX_MEN>
+    ghost before: { List (List ℕ) }
+    requires following { ComesAfterGroups material.now part group taken.now before }
+    requires few { size ≤ 6 }
+    requires below { number < length (ordered_sets material.now part before size) }
+    ensures { slice_get (ordered_sets material.now part before size) number ≡ Some result.items }
+{
+    if group > 0 {
+        // only the first later group may have the other pawns: those of the colour that does not lead
+        let pawns = (material.other_pawns() > 0) & (group == 1);
+        return unrank_free_squares(size, number, taken, pawns);
+    }
+    // for proofs alone: a material is the men of a name, so at most four pawns lead
+    let _ = material.material();
+    if material.has_pawns() {
+        unrank_lead_pawns(material.lead_pawns(), part, number)
+    } else if material.single_lead() {
+        copied(&unrank_triple(number))
+    } else {
+        copied(&unrank_kings(number))
+    }
+}
+
+fn copied(squares: &[u8]) -> ArrayVec<u8, MAX_MEN>
+    requires { length squares.now ≤ 6 }
+    ensures { result.items ≡ squares.now }
+{
+    let mut copy = ArrayVec::new();
+    let _ = copy.try_extend_from_slice(squares);
+    copy
 }
 
 /// Appends `more` to `squares`.

@@ -1,5 +1,5 @@
-//! Tests of the program's commands, through the public items of `szg_answers` and `szg_commands` alone: words, answers, statuses, texts, and
-//! devices that fail.
+//! Tests of the program's commands, through the public items of `szg_answers`, `szg_runs` and `szg_commands` alone: words, answers,
+//! statuses, texts, and devices that fail.
 #![tactic(auto)]
 
 #[cfg(test)]

@@ -21,7 +21,7 @@ pub(crate) const MAX_VALUES: u32 = 256;
 pub(crate) const LEAST_COUNT: u32 = 4;
 
 /// Two neighbouring symbols, from left to right.
-#[derive(Clone, Copy, PartialEq, Eq, Hash)]
+#[derive(Clone, Copy, PartialEq, Eq, PartialOrd, Ord, Hash)]
 pub(crate) struct Pair {
     pub left: u16,
     pub right: u16,

@@ -24,6 +24,8 @@ use crate::shrinking::dropping::{without_one, without_poor};
 use crate::shrinking::tries::Best;
 use crate::watching::{Unwatched, Watcher};
 use std::alloc::{AllocError, Global};
+use std::iter::StepBy;
+use std::ops::RangeInclusive;
 
 /// The number of tree nodes on the paths searched after which no more pairs are added, and none dropped by a rising
 /// bound. Single pairs may still be dropped then (`TRIM_BUDGET`), and the best text is still spelled again.
@@ -58,28 +60,9 @@ const PASSES: u64 = 4;
 /// The number of pairs of the second try. It is also the default of `szg build --rounds`.
 const FEW_PAIRS: u32 = 256;
 
-/// The bounds that one call of `drop_pairs` tries: `first`, then `step` more each time, up to `last`. A pair that is no
-/// half of a kept pair is dropped if it saves less than the bound, in bits times `BIT`.
-#[derive(Drop)]
-struct Bounds {
-    first: u64,
-    step: u64,
-    last: u64,
-}
-
-/// The first bounds for a list of at most `FEW_VALUES` values.
-const FIRST_BOUNDS: Bounds = Bounds {
-    first: 8 * BIT,
-    step: 4 * BIT,
-    last: 64 * BIT,
-};
-
-/// The bounds for a longer list.
-const FEW_BOUNDS: Bounds = Bounds {
-    first: 16 * BIT,
-    step: 16 * BIT,
-    last: 48 * BIT,
-};
+/// The bounds that one call of `drop_pairs` tries, in half bits. A pair that is no half of a kept pair is dropped if it
+/// saves less than the bound.
+type Bounds = StepBy<RangeInclusive<u64>>;
 
 /// Drops the pairs that save the fewest bits, with a rising bound, and spells the leaves again after each step. Offers
 /// each text to `best`.
@@ -92,19 +75,17 @@ fn drop_pairs<V: Watcher>(
     watcher: &mut V,
 ) -> Result<(), AllocError> {
     let mut paired = start;
-    let mut least = bounds.first;
-    for _ in 0..MAX_SYMBOLS {
-        if least > bounds.last || best.budget == 0 {
+    for bound in bounds {
+        if best.budget == 0 {
             break;
         }
         watcher.attempt(best.tries, Some(best.bytes()));
-        let rest = without_poor(alloc, &paired, least)?;
+        let rest = without_poor(alloc, &paired, bound.saturating_mul(BIT / 2))?;
         let Some(next) = best.spelled(alloc, rest, quarters)? else {
             break;
         };
         best.offer(alloc, &next)?;
         paired = next;
-        least = least.saturating_add(bounds.step.max(1));
     }
     Ok(())
 }
@@ -138,9 +119,7 @@ fn begin_tries<V: Watcher>(
     let all = with_pairs(alloc, begun, MAX_SYMBOLS as u32, watcher)?;
     best.offer(alloc, &all)?;
     let symbols = all.symbols.len() as u64;
-    best.limit = best
-        .limit
-        .saturating_add(symbols.saturating_mul(SYMBOL_NODES));
+    best.limit = LIMIT.saturating_add(symbols.saturating_mul(SYMBOL_NODES));
     Ok((best, all))
 }
 
@@ -157,11 +136,7 @@ fn add_pairs<V: Watcher>(
         }
         let start = best.paired.clone()?;
         let more = with_pairs(alloc, start, MAX_SYMBOLS as u32, &mut Unwatched)?;
-        let bounds = Bounds {
-            first: 12 * BIT,
-            step: (8 - round % 7) * (BIT / 2),
-            last: 64 * BIT,
-        };
+        let bounds = (24..=128).step_by(8 - (round % 7) as usize);
         drop_pairs(alloc, more, bounds, round * 2 % 5, best, watcher)?;
     }
     Ok(())
@@ -176,18 +151,17 @@ fn trim<V: Watcher>(alloc: Global, best: &mut Best, watcher: &mut V) -> Result<(
         let quarters = pass % 2 * 2;
         let count = best.paired.entries.len();
         let mut is_less = false;
-        for later in 0..count {
+        for symbol in (0..count).rev() {
             if best.budget == 0 {
                 break;
             }
             watcher.attempt(best.tries, Some(best.bytes()));
-            let symbol = (count - 1 - later).min(MAX_SYMBOLS) as u16;
+            let symbol = symbol.min(MAX_SYMBOLS) as u16;
             if let Some(rest) = without_one(alloc, &best.paired, symbol)? {
                 let Some(tried) = best.spelled(alloc, rest, quarters)? else {
                     return Ok(());
                 };
-                let is_kept = best.offer(alloc, &tried)?;
-                is_less = is_less || is_kept;
+                is_less |= best.offer(alloc, &tried)?;
             }
         }
         if !is_less {
@@ -206,17 +180,17 @@ pub(crate) fn shrink<V: Watcher>(
     watcher: &mut V,
 ) -> Result<Paired, AllocError> {
     let is_short = begun.symbols.len() <= FEW_VALUES;
-    let (first, tries) = if is_short {
-        (FIRST_BOUNDS, 4)
+    let (bounds, tries) = if is_short {
+        ((16..=128).step_by(8), 4)
     } else {
-        (FEW_BOUNDS, 1)
+        ((32..=96).step_by(32), 1)
     };
     if begun.symbols.len() > MOST_VALUES {
         return with_pairs(alloc, begun, MAX_SYMBOLS as u32, watcher);
     }
     watcher.attempt(0, None);
     let (mut best, all) = begin_tries(alloc, begun, other_bytes, watcher)?;
-    drop_pairs(alloc, all, first, 2, &mut best, watcher)?;
+    drop_pairs(alloc, all, bounds, 2, &mut best, watcher)?;
     if is_short {
         add_pairs(alloc, &mut best, watcher)?;
         if best.paired.entries.len() <= FEW_SYMBOLS {

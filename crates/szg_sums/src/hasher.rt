@@ -34,13 +34,6 @@ pub trait Hasher: Drop {
         ensures { (m : List ℕ) → has_taken self m → result ≡ bytes_eq (sum_of m) due.now };
 }
 
-/// Returns the digest of the bytes that a hasher has taken.
-pub fn sha256_of(hasher: Sha256) -> [u8; 32]
-    ensures { (m : List ℕ) → Holds256 hasher m → result ≡ sha256 m }
-{
-    hasher.finalize()
-}
-
 impl Hasher for Md5 {
     ghost has_taken = { λ state m. of_md5.Holds state m };
 

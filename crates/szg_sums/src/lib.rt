@@ -6,7 +6,7 @@ mod lists;
 mod paths;
 mod sum;
 
-pub use hasher::{Hasher, sha256_of};
+pub use hasher::Hasher;
 pub use lists::{FromLines, Sums};
 pub use md5::Md5;
 pub use paths::normal;

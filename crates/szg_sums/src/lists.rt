@@ -135,9 +135,7 @@ fn listed_in(alloc: Global, line: &[u8]) -> Result<Option<Listed>, AllocError> {
     let name = if has_escapes {
         unescaped(alloc, text)?
     } else {
-        let mut name = Vec::new(alloc);
-        name.extend_from_slice(text)?;
-        name
+        text.to_vec(alloc)?
     };
     let path = normal(alloc, &name)?;
     Ok(Some(Listed { name, path, sum }))
@@ -147,14 +145,9 @@ fn listed_in(alloc: Global, line: &[u8]) -> Result<Option<Listed>, AllocError> {
 fn plain_parts(line: &[u8]) -> Option<(&[u8], &[u8])> {
     let at = line.iter().position(|byte| *byte == b' ')?;
     let (digits, rest) = line.split_at(at);
-    let name = match rest.strip_prefix(b"  ".as_slice()) {
-        Some(name) => name,
-        None => rest.strip_prefix(b" *".as_slice())?,
-    };
-    if digits.is_empty() || name.is_empty() {
-        return None;
-    }
-    Some((digits, name))
+    let plain = rest.strip_prefix(b"  ".as_slice());
+    let name = plain.or(rest.strip_prefix(b" *".as_slice()))?;
+    (!digits.is_empty() && !name.is_empty()).then_some((digits, name))
 }
 
 /// Returns the digits and the name of a line that begins with the algorithm.
@@ -166,14 +159,10 @@ fn tagged_parts(line: &[u8]) -> Option<(&[u8], &[u8])> {
         b"SHA512 (".as_slice(),
     ];
     let rest = tags.iter().find_map(|tag| line.strip_prefix(*tag))?;
-    let length = rest.len().checked_sub(4)?;
-    'ends: for less in 0..length {
-        let (name, end) = rest.split_at(length - less);
-        if let Some(digits) = end.strip_prefix(b") = ".as_slice()) {
-            return Some((digits, name));
-        }
-    }
-    None
+    (1..rest.len()).rev().find_map(|at| {
+        let digits = rest.get(at..)?.strip_prefix(b") = ".as_slice())?;
+        Some((digits, rest.get(..at)?))
+    })
 }
 
 /// Returns a name without its escapes: `\n`, `\r`, and a backslash after another one.

@@ -12,18 +12,12 @@ pub enum Sum {
 impl Sum {
     /// Returns the digest of these bytes, of the algorithm whose digests have their number. None if there is none.
     pub fn of_bytes(bytes: &[u8]) -> Option<Sum> {
-        if let Ok(digest) = bytes.try_into() {
-            return Some(Sum::Md5(digest));
-        }
-        if let Ok(digest) = bytes.try_into() {
-            return Some(Sum::Sha1(digest));
-        }
-        if let Ok(digest) = bytes.try_into() {
-            return Some(Sum::Sha256(digest));
-        }
-        match bytes.try_into() {
-            Ok(digest) => Some(Sum::Sha512(digest)),
-            Err(_) => None,
+        match bytes.len() {
+            16 => bytes.try_into().ok().map(Sum::Md5),
+            20 => bytes.try_into().ok().map(Sum::Sha1),
+            32 => bytes.try_into().ok().map(Sum::Sha256),
+            64 => bytes.try_into().ok().map(Sum::Sha512),
+            _ => None,
         }
     }
 }

@@ -1,11 +1,12 @@
 -- The squares on which a man may not stand.
-use Rattle.std.proofs.Common.{◌≡◌, ℕ, ◌<◌, ◌≤◌, refl, sym, ap, ◌∙◌, Bool, true, false, inl, inr, arith, suc, zero}
+use Rattle.std.proofs.Common.{◌≡◌, ◌≢◌, ℕ, ◌*◌, ◌/◌, ◌%◌, ◌^◌, ◌<◌, ◌≤◌, w64, refl, sym, ap, ◌∙◌, Bool, true, false, inl, inr, arith, suc, zero}
 use Rattle.std.specs.Prelude.{◌==◌, ◌&&◌, ◌||◌, slice_index, max}
 use Rattle.std.specs.Int.{bit_at}
-use Rattle.std.specs.Int.Bits.{bit_or}
+use Rattle.std.specs.Int.Bits.{bit_and, bit_or}
 use Rattle.std.proofs.Math.Nat.{eq-or-lt_of_le}
 use Rattle.std.proofs.lemmas.Bool.{and_parts}
-use Rattle.std.proofs.lemmas.Nat.Bits.{bit_at_or, bit_at-lt, bit_at-zero}
+use Rattle.std.proofs.lemmas.Bool.Decides.{nat_tests}
+use Rattle.std.proofs.lemmas.Nat.Bits.{bit_at_or, bit_at-lt, bit_at-zero, bit_at_set_same, bit_at_set_other, shr_and_one}
 use Rattle.szg_values.specs.Men.{code_of, rank_of}
 use Rattle.szg_values.specs.Placement.{is_barred, is_taken}
 use Rattle.szg_values.specs.declared.Man.{Man}
@@ -65,3 +66,19 @@ either (suc (suc a)) b h k = absurd (omega (arith, h))
 -- a square that is taken by either of two
 pub taken_by : (a b square : ℕ) → is_taken (bit_or a b) square ≡ (is_taken a square || is_taken b square)
 taken_by a b square = ap (λ (n : ℕ). n == 1) (bit_at_or a b square) ∙ either (bit_at a square) (bit_at b square) (bit_at-lt a square) (bit_at-lt b square)
+
+pub is_other : (n : ℕ) → n ≢ 1 → (n == 1) ≡ false
+is_other n h = grind (arith, nat_tests)
+
+-- ---- putting a man on a square, as the code does it
+
+module _ (taken square number : ℕ) (same : number ≡ square) (below : square < 64) where
+  pub closed_told : (man : Man) (code : ℕ) → code ≡ code_of man → (bit_and (bit_or taken (slice_index BARRED code) / 2 ^ number) 1 == 1) ≡ (is_taken taken square || is_barred man square)
+  closed_told man code e = rw (same, e) (ap (λ (n : ℕ). n == 1) (shr_and_one (bit_or taken (slice_index BARRED (code_of man))) square)
+      ∙ taken_by taken (slice_index BARRED (code_of man)) square ∙ ap (λ (b : Bool). is_taken taken square || b) (barred_told man square below))
+
+  pub set_same : is_taken (bit_or taken (1 * 2 ^ number % 18446744073709551616)) square ≡ true
+  set_same = rw same (ap (λ (n : ℕ). n == 1) (bit_at_set_same w64 taken square below))
+
+  pub set_other : (other : ℕ) → other ≢ square → is_taken (bit_or taken (1 * 2 ^ number % 18446744073709551616)) other ≡ is_taken taken other
+  set_other other differs = rw same (ap (λ (n : ℕ). n == 1) (bit_at_set_other w64 taken square below other differs))

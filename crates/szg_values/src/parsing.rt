@@ -69,14 +69,7 @@ fn is_spelled(text: &[u8]) -> bool
 fn has_name_letters(text: &[u8]) -> bool
     ensures { result ≡ list_all is_name_letter text.now }
 {
-    text.iter().all(|letter| is_name_letter(*letter))
-}
-
-/// Returns whether a byte is one of K Q R B N P v.
-fn is_name_letter(letter: u8) -> bool
-    ensures { result ≡ is_name_letter letter }
-{
-    matches!(letter, b'K' | b'Q' | b'R' | b'B' | b'N' | b'P' | b'v')
+    text.iter().all(|letter| b"KQRBNPv".contains(letter))
 }
 
 /// Returns whether a side's letters begin with a K and have no second one.

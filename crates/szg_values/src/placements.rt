@@ -150,18 +150,11 @@ pub fn with_man(taken: u64, man: Man, square: Square) -> Option<u64>
     ensures refused { IsNone result → IsTrue (is_taken taken square || is_barred man square) }
 {
     let number = square.number();
-    if is_closed(taken, man, number) {
+    let closed = (taken | BARRED[usize::from(man.code())]) >> number & 1 == 1;
+    if closed {
         return None;
     }
-    Some(with_square(taken, number))
-}
-
-/// Returns whether a man can't be put on a square.
-fn is_closed(taken: u64, man: Man, square: u8) -> bool
-    requires { square < 64 }
-    ensures { result ≡ (is_taken taken square || is_barred man square) }
-{
-    (taken | BARRED[usize::from(man.code())]) >> square & 1 == 1
+    Some(taken | 1 << number)
 }
 
 /// Returns what a man adds to a placement's key: 8 to the power of the code.
@@ -179,15 +172,6 @@ fn colored_code(man: Man, color: Color) -> u8
     ensures below { result < 16 }
 {
     man.code() + 8 * (color as u8)
-}
-
-/// Sets the bit of a square in `taken`.
-fn with_square(taken: u64, square: u8) -> u64
-    requires { square < 64 }
-    ensures same { IsTrue (is_taken result square) }
-    ensures others { (other : ℕ) → other ≢ square → is_taken result other ≡ is_taken taken other }
-{
-    taken | 1 << square
 }
 
 /// Returns whether there are three to six men, with exactly one king of each colour.

@@ -1,19 +1,18 @@
 -- The least number of bytes of each text of a dump's grammar: one byte for each line.
 use Rattle.std.proofs.Common.{◌≡◌, ℕ, zero, suc, ◌+◌, ◌-◌, ◌*◌, ◌<◌, ◌≤◌, List, [], ◌∷◌, ◌++◌, length, drop, length-drop, ap, subst, arith, Option}
-use Rattle.std.specs.Prelude.{get_or}
+use Rattle.std.specs.Prelude.{codes, get_or}
 use Rattle.szg_values.specs.Material.{Sides}
 use Rattle.szg_values.specs.declared.Kind.{Kind}
 use Rattle.szg_file.specs.Contents.{Part, Map, has_bit}
 use Rattle.szg_build.specs.Dump.{Dump, SubDump, subtable_ids_of, dump_of_subs}
 use Rattle.szg_build.specs.Fronts.{lines_after, sub_line}
 use Rattle.szg_build.specs.Text.{Form}
-use Rattle.szg_build.specs.Lines.{Lines, means, ◌>>=◌}
-use Rattle.szg_build.specs.Grammar.{Word, number_line, map_list, map_of, repeated, run_values, part_line, order_check, flags_line, subtable_format, subtables_format}
+use Rattle.szg_build.specs.Lines.{Lines, means, ◌>>=◌, ◌>>◌}
+use Rattle.szg_build.specs.Grammar.{Word, fixed, value, number_line, greatest_count, map_list, map_of, repeated, run_values, values_lines, part_line, order_check, length_check, flags_line, subtable_format, subtables_format}
 use Rattle.szg_build.specs.Plan.{sizes_if_valid}
 use Rattle.szg_io.specs.declared.device.Input.{Ghosts}
 use Rattle.szg_build.specs.declared.reading.incoming.Incoming.{Incoming}
 use Rattle.szg_build.specs.Lacks.{LacksLines}
-use Rattle.szg_build.specs.Rests.{counted_format, fields_format}
 use Rattle.szg_build.specs.Wholes.{dump_after_parts}
 use Rattle.szg_build.proofs.Readers.LackLaws.{Uses, Asks, uses_none, uses_line, uses_then, asks_means, asks_line, asks_then, asks_fewer, asks_mapped, lacks_item}
 use Rattle.szg_build.proofs.Readers.GoingLaws.{GoesOn}
@@ -42,6 +41,21 @@ asks_runs (suc most) zero = asks_means []
 asks_runs (suc most) (suc left) = asks_fewer (run_values (suc most) (suc left)) 1 0 (omega arith) (asks_line (lines_after (run_values (suc most) (suc left))))
 
 -- ---- a subtable
+
+-- what is left of a subtable's text from the line `values` on, after these flags and this map
+abbrev pub counted_format : Form → Option (List ℕ) → ℕ → ℕ → Option Map → Lines SubDump
+counted_format form sizes s flags lists = do
+  count ← number_line (fixed (codes "values") ∷ value ∷ []) greatest_count
+  length_check form sizes s count
+  values ← values_lines form count
+  means (record { flags = flags; lists = lists; values = values })
+
+-- what is left of a subtable's text after the line that names it
+abbrev pub fields_format : Form → Kind → Option (List ℕ) → ℕ → Lines SubDump
+fields_format form kind sizes s = do
+  flags ← flags_line kind
+  lists ← map_of (has_bit 1 flags) (has_bit 4 flags)
+  counted_format form sizes s flags lists
 
 pub asks_counted : (form : Form) (sizes : Option (List ℕ)) (s flags : ℕ) (lists : Option Map) → Asks 1 (counted_format form sizes s flags lists)
 asks_counted form sizes s flags lists = asks_line (lines_after (counted_format form sizes s flags lists))

@@ -1,13 +1,14 @@
 -- The result for a line that was read is the meaning of its words.
-use Rattle.std.proofs.Common.{◌≡◌, ℕ, List, refl, sym, subst, inl, inr, Ok, Err}
-use Rattle.std.specs.Prelude.{Result, IfOk, OnOk, IsErrOf}
+use Rattle.std.proofs.Common.{◌≡◌, ◌∙◌, ℕ, List, refl, sym, ap, subst, inl, inr, Ok, Err}
+use Rattle.std.specs.Prelude.{Result, IfOk, OnOk, IsErrAnd, IsErrOf}
+use Rattle.std.proofs.lemmas.Result.{err_from_is_err_and}
 use Rattle.szg_io.specs.declared.device.Input.{Ghosts}
 use Rattle.szg_build.specs.declared.reading.incoming.Incoming.{Incoming}
 use Rattle.szg_build.specs.declared.dump.DumpFault.{DumpFault}
 use Rattle.szg_build.specs.declared.dump.DumpReadFault.{DumpReadFault}
 use Rattle.szg_build.specs.declared.dump.DumpReadFault.TheVariants.{Memory}
 use Rattle.szg_build.specs.Fronts.{ParsesLine, in_line}
-use Rattle.szg_build.specs.Lines.{Lines, line, words_of}
+use Rattle.szg_build.specs.Lines.{Lines, line, refuses, of_line, words_of}
 use Rattle.szg_build.specs.Reading.{ReadsLines, IsParsed}
 use Rattle.szg_build.proofs.Readers.LineRead.{words_line}
 use Rattle.szg_build.proofs.Readers.ReadingLaws.{reads_then, reads_stopped, reads_nothing, reads_refused}
@@ -34,6 +35,12 @@ pub known_reads : {A T R : Type 0} (next : List (List ℕ) → Lines A) (view : 
 known_reads next view {result = result} says (inl (text, stated, lines_after, first, same)) = reads_parsed next view words_of text text stated result refl first (says text stated lines_after) same
 known_reads next view {o = o} {n = n} {dev = dev} {i = i} {k = k} says (inr (fault, first, same)) =
     subst (λ r. ReadsLines (line next) view o n dev i k r) (sym same) (reads_unread next words_of view fault first)
+
+-- the fault of parsing a word is the fault of its line
+pub parsed_fault : {A X : Type 0} (lines : Lines A) (result : Result X DumpFault) (view : X → A) (fault why : DumpFault) → IsErrAnd result (λ z. z ≡ fault) → fault ≡ why → lines ≡ refuses (of_line why) → IsParsed lines view result
+parsed_fault lines result view fault why gave is refused =
+    let p = err_from_is_err_and result gave in
+    subst (λ r. IsParsed lines view r) (sym (p.1 ∙ ap (λ (z : DumpFault). Err z) (p.2 ∙ is))) refused
 
 -- parsing a line never returns Memory
 pub no_memory : {X : Type 0} (number : ℕ) (r : Result X DumpFault) (answer : Result X DumpReadFault) → answer ≡ in_line number r → IsErrOf answer Memory → ⊥

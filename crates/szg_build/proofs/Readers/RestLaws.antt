@@ -16,10 +16,9 @@ use Rattle.szg_build.specs.Lines.{Lines, means, ◌>>=◌}
 use Rattle.szg_build.specs.Grammar.{fixed, value, number_line, greatest_count, demand, order_check, length_check, values_lines, flags_line, map_of, subtable_format}
 use Rattle.szg_build.specs.Reading.{ReadsLines}
 use Rattle.szg_build.specs.Lacks.{LacksLines}
-use Rattle.szg_build.specs.Rests.{counted_format, fields_format}
 use Rattle.szg_build.proofs.Readers.ReadingLaws.{reads_as, reads_then, reads_stopped, reads_nothing, reads_unbuilt}
 use Rattle.szg_build.proofs.Readers.LackLaws.{lacks_first, lacks_then, lacks_as, asks_means}
-use Rattle.szg_build.proofs.Readers.LeastLaws.{asks_counted}
+use Rattle.szg_build.proofs.Readers.LeastLaws.{counted_format, fields_format, asks_counted}
 
 pub flags_read : {R : Type 0} (kind : Kind) {o n : Incoming} {dev : Ghosts R} {i k : R} {r : Result ℕ DumpReadFault} → kind ≡ Dtz →
     ReadsLines (number_line (fixed (codes "flags") ∷ value ∷ []) 31) (λ (flags : ℕ). flags) o n dev i k r → ReadsLines (flags_line kind) (λ (flags : ℕ). flags) o n dev i k r

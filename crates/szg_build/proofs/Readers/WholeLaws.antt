@@ -14,16 +14,15 @@ use Rattle.szg_build.specs.declared.reading.incoming.Incoming.{Incoming}
 use Rattle.szg_build.specs.declared.dump.DumpReadFault.{DumpReadFault}
 use Rattle.szg_build.specs.declared.reading.gathering.Subs.{Subs}
 use Rattle.szg_build.specs.declared.reading.subreading.SubText.{SubText}
-use Rattle.szg_build.specs.Dump.{Dump, SubDump, subtable_ids_of, flags_in, maps_in, dump_of_subs}
+use Rattle.szg_build.specs.Dump.{Dump, SubDump, parts_of, subtable_ids_of, flags_in, maps_in, dump_of_subs}
 use Rattle.szg_build.specs.Plan.{sizes_if_valid}
 use Rattle.szg_build.specs.Tabling.{IsOfBytes}
 use Rattle.szg_build.specs.Text.{Form}
 use Rattle.szg_build.specs.Lines.{Lines, means, ◌>>=◌}
-use Rattle.szg_build.specs.Grammar.{dump_format, version_line, name_line, kind_line, subtable_format, subtables_format}
+use Rattle.szg_build.specs.Grammar.{dump_format, each, version_line, name_line, kind_line, end_line, part_line, subtable_format, subtables_format}
 use Rattle.szg_build.specs.Reading.{ReadsLines}
 use Rattle.szg_build.specs.Packed.{lists_in, packed_values, values_held}
-use Rattle.szg_build.specs.Rests.{subtable_shown}
-use Rattle.szg_build.specs.Wholes.{AreSubs, dump_after_kind, dump_after_parts, only_in_dtz}
+use Rattle.szg_build.specs.Wholes.{AreSubs, dump_after_parts, only_in_dtz, subtable_shown}
 use Rattle.szg_build.proofs.Readers.GoingLaws.{GoesOn, mapped, goes_here, goes_then, goes_as, goes_step, goes_stopped, goes_ends}
 use Rattle.szg_build.proofs.Readers.ReadingLaws.{reads_nothing}
 use Rattle.szg_build.proofs.Builders.TableLaws.{sizes_of_parts, no_sizes}
@@ -125,6 +124,13 @@ subs_ended form material kind last parts read s view v all same a =
     ∙ ap (λ (z : List SubDump). means (dump_of_subs material kind parts last z)) (append-nil read) ∙ ap means (sym same)))
 
 -- ---- the whole
+
+-- what is left of a dump after the kind
+abbrev pub dump_after_kind : Form → Sides → Kind → Lines Dump
+dump_after_kind form material kind = do
+  last ← end_line
+  parts ← each part_line (parts_of material)
+  dump_after_parts form material kind last parts
 
 abbrev pub after_form : Form → Lines Dump
 after_form form = name_line >>= λ material. kind_line >>= λ kind. dump_after_kind form material kind

@@ -11,7 +11,7 @@ ghost use Rattle.szg_build.specs.Lines.{verdict};
 ghost use Rattle.szg_build.specs.Packed.{gathered_dump, ArePacked};
 ghost use Rattle.szg_build.specs.Reading.{ReadsLines};
 ghost use Rattle.szg_build.specs.Shown.{dump_seen, form_of, FollowsLines, TookLines};
-ghost use Rattle.szg_build.specs.Wholes.{dump_after_kind, dump_after_parts};
+ghost use Rattle.szg_build.specs.Wholes.{dump_after_parts};
 
 use crate::dump::{Dump, DumpReadFault};
 use crate::places::places;
@@ -27,7 +27,6 @@ use std::alloc::Global;
 use szg_file::subtable_sizes;
 use szg_io::Input;
 use szg_subtable::{Choice, Packing, Unwatched, Watcher};
-use szg_values::{Kind, Material};
 
 /// A choice with numbers that no table has, so no list of values is packed.
 const LISTED: Choice = Choice::Fixed(Packing {
@@ -80,34 +79,6 @@ fn read_subs<R: Input, V: Watcher>(
     Ok(Gathered { header, subs })
 }
 
-/// Reads what comes after the kind: the last bytes, the parts and the subtables.
-fn read_after_kind<R: Input, V: Watcher>(
-    form: u8,
-    material: Material,
-    kind: Kind,
-    choice: Choice,
-    input: &mut R,
-    incoming: &mut Incoming,
-    watcher: &mut V,
-) -> Result<Gathered, DumpReadFault>
-    requires { length (held_of incoming.old) ≤ 2 }
-    ensures lines { ReadsLines (dump_after_kind (form_of form) material kind) gathered_dump incoming.old incoming.new R.Input input.old input.new result }
-    ensures held { OnOk result (held_of incoming.new ≡ []) }
-    ensures packed { IfOk result (λ gathered. ArePacked gathered.header.kind choice gathered.subs) }
-    ensures memory { IsErrOf result DumpReadFault.Memory → LacksLines (dump_after_kind (form_of form) material kind) 0 incoming.old R.Input input.old input.new }
-{
-    let due = 2 * places(&material, kind).len() as u64;
-    let last = read_parsed(parse_last_bytes, due + 1, input, incoming)?;
-    let parts = read_parts(&material, due, input, incoming)?;
-    let header = Header {
-        material,
-        kind,
-        parts,
-        last,
-    };
-    read_subs(form, header, choice, input, incoming, watcher)
-}
-
 /// Reads the whole text. Packs subtables by `choice` while it reads, up to the first that `add_sub` does not pack. The
 /// values of that one and of all later ones are listed.
 fn read_gathered<R: Input, V: Watcher>(
@@ -125,19 +96,16 @@ fn read_gathered<R: Input, V: Watcher>(
     let form = read_parsed(parse_form, 4, input, incoming)?;
     let material = read_parsed(parse_material, 3, input, incoming)?;
     let kind = read_parsed(parse_kind, 2, input, incoming)?;
-    read_after_kind(form, material, kind, choice, input, incoming, watcher)
-}
-
-/// Reads the whole text and lists all values.
-fn read_text<R: Input>(input: &mut R, incoming: &mut Incoming) -> Result<Dump, DumpReadFault>
-    requires { held_of incoming.old ≡ [] }
-    ensures lines { ReadsLines dump_format dump_seen incoming.old incoming.new R.Input input.old input.new result }
-    ensures held { OnOk result (held_of incoming.new ≡ []) }
-    ensures memory { IsErrOf result DumpReadFault.Memory → LacksLines dump_format 0 incoming.old R.Input input.old input.new }
-{
-    let gathered = read_gathered(LISTED, input, incoming, &mut Unwatched)?;
-    let dump = list_dump(incoming.alloc, gathered)?;
-    Ok(dump)
+    let due = 2 * places(&material, kind).len() as u64;
+    let last = read_parsed(parse_last_bytes, due + 1, input, incoming)?;
+    let parts = read_parts(&material, due, input, incoming)?;
+    let header = Header {
+        material,
+        kind,
+        parts,
+        last,
+    };
+    read_subs(form, header, choice, input, incoming, watcher)
 }
 
 /// Reads the text of a dump, in the form that its first line names. No byte after its last line is read.
@@ -162,7 +130,9 @@ pub fn read_dump<R: Input>(alloc: Global, input: &mut R) -> Result<Dump, DumpRea
     ensures quiet { (IsErrOf result DumpReadFault.Device → ⊥) → R.failures input.new ≡ R.failures input.old }
 {
     let mut incoming = Incoming::new(alloc);
-    read_text(input, &mut incoming)
+    let gathered = read_gathered(LISTED, input, &mut incoming, &mut Unwatched)?;
+    let dump = list_dump(alloc, gathered)?;
+    Ok(dump)
 }
 
 /// Reads the text of a dump as `read_dump` does, and packs its subtables by `choice` while it reads. `watcher` sees

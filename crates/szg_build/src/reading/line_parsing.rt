@@ -21,9 +21,7 @@ pub(crate) const GREATEST_ITEM: u64 = 65535;
 pub(crate) fn parse_form(text: &[u8]) -> Result<u8, DumpFault>
     ensures { IsParsed (lines_after version_line (words_of text.now)) form_of result }
 {
-    let Some(word) = one_word(b"szg-dump ", text) else {
-        return Err(DumpFault::Field);
-    };
+    let word = one_word(b"szg-dump ", text)?;
     if word == b"1".as_slice() {
         return Ok(1);
     }
@@ -37,9 +35,7 @@ pub(crate) fn parse_form(text: &[u8]) -> Result<u8, DumpFault>
 pub(crate) fn parse_material(text: &[u8]) -> Result<Material, DumpFault>
     ensures { IsParsed (lines_after name_line (words_of text.now)) (λ material. material) result }
 {
-    let Some(word) = one_word(b"name ", text) else {
-        return Err(DumpFault::Field);
-    };
+    let word = one_word(b"name ", text)?;
     let Ok(name) = str::from_utf8(word) else {
         return Err(DumpFault::Name);
     };
@@ -53,9 +49,7 @@ pub(crate) fn parse_material(text: &[u8]) -> Result<Material, DumpFault>
 pub(crate) fn parse_kind(text: &[u8]) -> Result<Kind, DumpFault>
     ensures { IsParsed (lines_after kind_line (words_of text.now)) (λ kind. kind) result }
 {
-    let Some(word) = one_word(b"kind ", text) else {
-        return Err(DumpFault::Field);
-    };
+    let word = one_word(b"kind ", text)?;
     if word == b"wdl".as_slice() {
         return Ok(Kind::Wdl);
     }
@@ -70,12 +64,8 @@ pub(crate) fn parse_last_bytes(text: &[u8]) -> Result<[u8; 16], DumpFault>
     requires { length text.now ≤ 80 }
     ensures { IsParsed (lines_after end_line (words_of text.now)) (λ bytes. bytes) result }
 {
-    let Some(word) = one_word(b"end ", text) else {
-        return Err(DumpFault::Field);
-    };
-    let Some(bytes) = hex_bytes(word) else {
-        return Err(DumpFault::Hex);
-    };
+    let word = one_word(b"end ", text)?;
+    let bytes = hex_bytes(word)?;
     if bytes.len() != 16 {
         return Err(DumpFault::Hex);
     }
@@ -89,13 +79,8 @@ pub(crate) fn parse_number_line(front: &[u8], limit: u64, text: &[u8]) -> Result
     ensures within { IfOk result (λ number. number ≤ limit) }
     ensures number { (pattern : List Word) → IsFront pattern front.now → IsParsed (lines_after (number_line pattern limit) (words_of text.now)) (λ n. n) result }
 {
-    let Some(word) = one_word(front, text) else {
-        return Err(DumpFault::Field);
-    };
-    match number_of(word, limit) {
-        Some(number) => Ok(number),
-        None => Err(DumpFault::Number),
-    }
+    let word = one_word(front, text)?;
+    number_of(word, limit)
 }
 
 /// Checks that a line names this subtable.
@@ -123,15 +108,9 @@ pub(crate) fn parse_part(
 {
     let mut front = *b"part a order ";
     front[5] = b'a' + number;
-    let Some((order_word, men_word)) = two_words(&front, b"men ", text) else {
-        return Err(DumpFault::Field);
-    };
-    let Some(order) = hex_bytes(order_word) else {
-        return Err(DumpFault::Hex);
-    };
-    let Some(men) = hex_bytes(men_word) else {
-        return Err(DumpFault::Hex);
-    };
+    let (order_word, men_word) = two_words(&front, b"men ", text)?;
+    let order = hex_bytes(order_word)?;
+    let men = hex_bytes(men_word)?;
     Ok((order, men))
 }
 
@@ -142,18 +121,12 @@ pub(crate) fn parse_run(left: u64, text: &[u8]) -> Result<(u64, u16), DumpFault>
     ensures within { IfOk result (λ run. run.0 ≤ left) }
     ensures long { IfOk result (λ _run. 3 ≤ length text.now) }
 {
-    let Some((count_word, value_word)) = two_words(b"", b"", text) else {
-        return Err(DumpFault::Field);
-    };
-    let Some(count) = number_of(count_word, GREATEST_COUNT) else {
-        return Err(DumpFault::Number);
-    };
+    let (count_word, value_word) = two_words(b"", b"", text)?;
+    let count = number_of(count_word, GREATEST_COUNT)?;
     if count == 0 {
         return Err(DumpFault::Number);
     }
-    let Some(value) = number_of(value_word, GREATEST_ITEM) else {
-        return Err(DumpFault::Number);
-    };
+    let value = number_of(value_word, GREATEST_ITEM)?;
     if count > left {
         return Err(DumpFault::Run);
     }

@@ -2,9 +2,11 @@
 ghost use Rattle.std.specs.Prelude.{◌≡◌, ◌⊎◌, map, true, IfOk, Err, None, Some};
 ghost use Rattle.std.specs.List.{AllByRecursion};
 ghost use Rattle.szg_file.specs.Accepted.{IsAccepted};
-ghost use Rattle.szg_build.specs.Chosen.{numbers_in, plan_by};
-ghost use Rattle.szg_build.specs.Packed.{gathered_dump, packed_values, AreFlagsOf, ArePacked, IsPackedSub, IsSettled};
+ghost use Rattle.szg_build.specs.Built.{subtables_in};
+ghost use Rattle.szg_build.specs.Chosen.{numbers_in, plan_by, IsBuiltAs, IsCodedTable};
+ghost use Rattle.szg_build.specs.Packed.{gathered_dump, packed_values, ArePacked, IsPackedSub, IsSettled};
 ghost use Rattle.szg_build.specs.Plan.{build_fault};
+ghost use Rattle.szg_build.specs.Rule.{byte4_for, constant_for, constant_in, HasSpanIndex};
 ghost use Rattle.szg_build.specs.Shown.{plan_seen};
 ghost use Rattle.szg_build.specs.Tabling.{IsBuiltBy, HasNoFault};
 ghost use Rattle.szg_build.specs.declared.BuildFault.{BuildFault};
@@ -41,15 +43,6 @@ impl Model for PackedDump {
 }
 
 impl PackedDump {
-    ghost use Rattle.std.specs.Prelude.{◌≡◌, ◌⊎◌, map, IfOk, Err, None, Some};
-    ghost use Rattle.std.specs.List.{AllByRecursion};
-    ghost use Rattle.szg_file.specs.Accepted.{IsAccepted};
-    ghost use Rattle.szg_build.specs.Built.{subtables_in};
-    ghost use Rattle.szg_build.specs.Chosen.{plan_by, IsBuiltAs, IsCodedTable};
-    ghost use Rattle.szg_build.specs.Plan.{build_fault};
-    ghost use Rattle.szg_build.specs.Rule.{byte4_for, constant_for, constant_in, HasSpanIndex};
-    ghost use Rattle.szg_build.specs.declared.BuildFault.{BuildFault};
-
     /// Builds the table, as `build_as` does from the dump's lists: with the same subtables and the same padding. `watcher` sees each subtable that is built or packed again now, and the end.
     ///
     /// Errors: the fault that `build_as` returns for the dump's lists, or `Memory` if memory was refused. To find the fault, all values are listed again. If there is a fault, no table is returned.
@@ -146,27 +139,6 @@ fn settle<V: Watcher>(
     Ok(settled)
 }
 
-/// Assembles the table of a plan from its packed subtables. If a small table has exactly one subtable with blocks, this
-/// subtable is packed again.
-fn assemble<V: Watcher>(
-    alloc: Global,
-    plan: &Plan,
-    choice: Choice,
-    packed: Vec<PackedSub>,
-    watcher: &mut V,
-) -> Result<Table, AllocError>
-    requires is_valid { HasNoFault (plan_seen plan.now) (map (packed_values plan.now.kind) packed.items) }
-    requires packed { AllByRecursion (IsPackedSub plan.now.kind choice) packed.items }
-    requires flags { AreFlagsOf plan.now.kind packed.items plan.now.flags.items }
-    ensures built { IfOk result (λ t. IsBuiltBy choice (plan_seen plan.now) (map (packed_values plan.now.kind) packed.items) t.contents) }
-    ensures accepted { IfOk result (λ t. IsAccepted t.contents t.filled) }
-    ensures padding { IfOk result (λ t. AllByRecursion (λ byte. byte ≡ 0) t.filled) }
-{
-    let settled = settle(alloc, plan, choice, packed, watcher)?;
-    let subs = settled.into_iter().map(|p| p.sub).collect(alloc)?;
-    table_from(alloc, plan, subs)
-}
-
 /// Returns the lists as slices.
 fn lend<'a>(alloc: Global, lists: &'a [Vec<u16>]) -> Result<Vec<&'a [u16]>, AllocError>
     ensures { IfOk result (λ slices. map (λ slice. slice.now) slices.items ≡ map (λ list. list.items) lists.now) }
@@ -224,7 +196,9 @@ fn build_gathered<V: Watcher>(
         last,
     };
     if rest.is_empty() && are_complete(&plan, &subs.packed) {
-        return Ok(assemble(alloc, &plan, choice, subs.packed, watcher)?);
+        let settled = settle(alloc, &plan, choice, subs.packed, watcher)?;
+        let made = settled.into_iter().map(|p| p.sub).collect(alloc)?;
+        return Ok(table_from(alloc, &plan, made)?);
     }
     let lists = list_all(alloc, plan.kind, &subs.packed, rest)?;
     let lent = lend(alloc, &lists)?;

@@ -1,12 +1,11 @@
 //! Reads a dump's subtables from a device.
 ghost use Rattle.std.specs.Prelude.{◌≡◌, ◌+◌, ◌<◌, ◌≤◌, ◌^◌, length, option_map, IfOk, IsErrOf, OnOk};
-ghost use Rattle.szg_file.specs.Held.{map_of};
 ghost use Rattle.szg_build.specs.Grammar.{demand, flags_line, length_check, order_check, subtable_format};
 ghost use Rattle.szg_build.specs.Held.{held_of};
 ghost use Rattle.szg_build.specs.Lacks.{LacksLines};
 ghost use Rattle.szg_build.specs.Reading.{ReadsLines};
-ghost use Rattle.szg_build.specs.Rests.{counted_format, fields_format, subtable_shown};
 ghost use Rattle.szg_build.specs.Shown.{form_of};
+ghost use Rattle.szg_build.specs.Wholes.{subtable_shown};
 ghost use Rattle.szg_build.specs.declared.BuildFault.TheVariants.{Length, Order};
 
 use crate::BuildFault;
@@ -75,55 +74,6 @@ fn may_follow(form: u8, sizes: &Option<ArrayVec<u64, 8>>) -> bool
     form != 2 || sizes.is_some()
 }
 
-/// Reads the rest of a subtable, beginning with its line `values`. `flags` and `map` were read before.
-fn read_counted<R: Input>(
-    form: u8,
-    sizes: &Option<ArrayVec<u64, 8>>,
-    s: usize,
-    flags: u8,
-    map: Option<Map>,
-    following: u64,
-    input: &mut R,
-    incoming: &mut Incoming,
-) -> Result<SubText, DumpReadFault>
-    requires small { flags < 32 }
-    requires few { following < 2 ^ 32 }
-    requires held { length (held_of incoming.old) ≤ following + 1 }
-    ensures lines { ReadsLines (counted_format (form_of form) (option_map (λ list. list.items) sizes.now) s flags (option_map map_of map)) subtable_shown incoming.old incoming.new R.Input input.old input.new result }
-    ensures following { OnOk result (length (held_of incoming.new) ≤ following) }
-    ensures small { IfOk result (λ sub. sub.flags < 32) }
-    ensures memory { IsErrOf result DumpReadFault.Memory → LacksLines (counted_format (form_of form) (option_map (λ list. list.items) sizes.now) s flags (option_map map_of map)) following incoming.old R.Input input.old input.new }
-{
-    let count = read_number(b"values ", GREATEST_COUNT, following, input, incoming)?;
-    if !may_have(form, sizes, s, count) {
-        return Err(DumpReadFault::Build(BuildFault::Length(s)));
-    }
-    let values = read_values(form, count, following, input, incoming)?;
-    Ok(SubText { flags, map, values })
-}
-
-/// Reads the rest of a subtable, beginning after the line that names it.
-fn read_fields<R: Input>(
-    form: u8,
-    kind: Kind,
-    sizes: &Option<ArrayVec<u64, 8>>,
-    s: usize,
-    following: u64,
-    input: &mut R,
-    incoming: &mut Incoming,
-) -> Result<SubText, DumpReadFault>
-    requires few { following < 2 ^ 30 }
-    requires held { length (held_of incoming.old) ≤ following + 1 }
-    ensures lines { ReadsLines (fields_format (form_of form) kind (option_map (λ list. list.items) sizes.now) s) subtable_shown incoming.old incoming.new R.Input input.old input.new result }
-    ensures following { OnOk result (length (held_of incoming.new) ≤ following) }
-    ensures small { IfOk result (λ sub. sub.flags < 32) }
-    ensures memory { IsErrOf result DumpReadFault.Memory → LacksLines (fields_format (form_of form) kind (option_map (λ list. list.items) sizes.now) s) following incoming.old R.Input input.old input.new }
-{
-    let flags = read_flags(kind, following + 1, input, incoming)?;
-    let map = read_map(flags, following + 1, input, incoming)?;
-    read_counted(form, sizes, s, flags, map, following, input, incoming)
-}
-
 /// Reads subtable `s`, beginning with the line that names its part and side.
 pub(crate) fn read_sub<R: Input>(
     form: u8,
@@ -153,5 +103,12 @@ pub(crate) fn read_sub<R: Input>(
     if !may_follow(form, sizes) {
         return Err(DumpReadFault::Build(BuildFault::Order));
     }
-    read_fields(form, kind, sizes, s, following, input, incoming)
+    let flags = read_flags(kind, following + 1, input, incoming)?;
+    let map = read_map(flags, following + 1, input, incoming)?;
+    let count = read_number(b"values ", GREATEST_COUNT, following, input, incoming)?;
+    if !may_have(form, sizes, s, count) {
+        return Err(DumpReadFault::Build(BuildFault::Length(s)));
+    }
+    let values = read_values(form, count, following, input, incoming)?;
+    Ok(SubText { flags, map, values })
 }

@@ -9,7 +9,6 @@ use std::alloc::{AllocError, Global};
 pub(crate) enum Values {
     /// The same value `count` times.
     Run { value: u16, count: u64 },
-    /// A list of values.
     Listed(Vec<u16>),
 }
 

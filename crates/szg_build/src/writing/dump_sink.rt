@@ -7,7 +7,6 @@ use szg_file::TableIndex;
 /// The state of a writer of a dump's subtables, whose values come one after another.
 #[derive(Drop)]
 pub(crate) struct DumpSink<'a> {
-    /// The table's index.
     pub index: &'a TableIndex,
     /// The form: 1 or 2.
     pub form: u8,

@@ -11,13 +11,8 @@ use szg_file::{Table, constant_value};
 /// The values of a table's subtable.
 #[derive(Drop)]
 pub enum StoredValues<'a> {
-    /// The same value at each index.
-    Same {
-        /// The value.
-        value: u16,
-        /// The number of values.
-        count: u64,
-    },
+    /// The same value `count` times.
+    Same { value: u16, count: u64 },
     /// The values of blocks that are not decoded yet.
     Blocks(BlockValues<'a>),
 }

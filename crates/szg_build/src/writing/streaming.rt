@@ -21,20 +21,12 @@ use szg_values::Kind;
 
 // ---- the lines before a subtable's values
 
-/// Returns the number of subtables of a table for which the index has a slot (part, side and size), and in DTZ also
-/// flags and an item in the list of maps.
+/// Returns the number of subtables of a table.
 fn count_subs(index: &TableIndex) -> usize
     ensures { result ≡ head_count index.now }
 {
     let places = places(index.material(), index.kind());
-    let heads = match index.kind() {
-        Kind::Wdl => index.slots().len(),
-        Kind::Dtz => {
-            let flagged = index.slots().len().min(index.flags().len());
-            flagged.min(index.maps().len())
-        }
-    };
-    places.len().min(heads)
+    places.len().min(index.flags().len())
 }
 
 /// Writes the flags and the map of subtable `s` of a DTZ table. For a WDL table it writes nothing.
@@ -203,9 +195,6 @@ pub(crate) fn end_dump<W: Output>(sink: &mut DumpSink<'_>, output: &mut W) -> Wr
 }
 
 impl<W: Output> ValueSink<W> for DumpSink<'_> {
-    ghost use Rattle.std.specs.Prelude.{true};
-    ghost use Rattle.szg_build.specs.Streaming.{Goes};
-
     ghost wanted = { λ _ _ _. true };
 
     ghost accepts = { λ s out values s' out'. Goes W.Output values s out s' out' };

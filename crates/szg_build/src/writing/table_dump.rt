@@ -10,7 +10,6 @@ ghost use Rattle.szg_build.specs.Streaming.{Goes};
 ghost use Rattle.szg_build.specs.Text.{dump_text};
 
 use crate::copies::table_subtable_ids;
-use crate::writing::block_values::BlockValues;
 use crate::writing::dump_sink::DumpSink;
 use crate::writing::dumping::StreamFault;
 use crate::writing::stored::{StoredValues, stored_values};
@@ -19,25 +18,7 @@ use std::alloc::Global;
 use szg_file::Table;
 use szg_io::Output;
 
-/// Adds the values of blocks to the dump. Each block is decoded into `values`.
-fn put_blocks<W: Output>(
-    blocks: &mut BlockValues<'_>,
-    values: &mut Vec<u16>,
-    sink: &mut DumpSink<'_>,
-    output: &mut W,
-) -> Result<(), StreamFault>
-    ensures goes { OnOk result (Goes W.Output blocks.old.values sink.old output.old sink.new output.new) }
-    ensures memory { IsErrOf result StreamFault.Memory → (done : List ℕ) × (rest : List ℕ) × (done ++ rest ≡ blocks.old.values) × Goes W.Output done sink.old output.old sink.new output.new }
-    ensures failed { IsErrOf result StreamFault.Output → HasFailed (W.failures output.old) (W.failures output.new) (W.interrupted output.new) }
-    ensures faults { IfErr result (λ fault. (fault ≡ StreamFault.Output) ⊎ (fault ≡ StreamFault.Memory)) }
-{
-    'each: while blocks.decode_next(values)? {
-        add_values(sink, values, output)?;
-    }
-    Ok(())
-}
-
-/// Adds the values of a subtable to the dump.
+/// Adds the values of a subtable to the dump. Each block is decoded into `values`.
 fn put_stored<W: Output>(
     stored: StoredValues<'_>,
     values: &mut Vec<u16>,
@@ -54,7 +35,12 @@ fn put_stored<W: Output>(
             add_same(sink, value, count, output)?;
             Ok(())
         }
-        StoredValues::Blocks(mut blocks) => put_blocks(&mut blocks, values, sink, output),
+        StoredValues::Blocks(mut blocks) => {
+            'each: while blocks.decode_next(values)? {
+                add_values(sink, values, output)?;
+            }
+            Ok(())
+        }
     }
 }
 

@@ -1,16 +1,17 @@
 -- The sizes of groups, and the slots of one more part.
-use Rattle.std.proofs.Common.{map-id, ◌≡◌, ℕ, zero, suc, ◌+◌, ◌≤◌, List, [], ◌∷◌, ◌++◌, length, map, slice_index, refl, sym, ap, ◌∙◌, arith, append_assoc, append-nil}
+use Rattle.std.proofs.Common.{cond, map-id, ◌≡◌, ℕ, zero, suc, ◌+◌, ◌≤◌, List, [], ◌∷◌, ◌++◌, length, map, slice_index, refl, sym, ap, ◌∙◌, arith, append_assoc, append-nil}
 use Rattle.std.specs.List.{range_with_len}
 use Rattle.std.specs.Prelude.{Result, Ok, Err, Option, Some, None, IsNone, IfSome}
 use Rattle.std.proofs.Math.Seq.{get_or-append_seam}
-use Rattle.std.proofs.lemmas.List.{length-append}
+use Rattle.std.proofs.lemmas.List.{length-append, length-map}
 use Rattle.std.proofs.lemmas.List.FromFn.{length-map-range_with_len, map-range_with_len_more}
 use Rattle.std.specs.Prelude.{Bool, true, false}
-use Rattle.szg_values.specs.Material.{Sides}
+use Rattle.szg_values.specs.Material.{Sides, is_symmetric}
+use Rattle.szg_values.specs.declared.Kind.{Kind}
+use Rattle.szg_values.specs.declared.Kind.TheVariants.{Wdl, Dtz}
 use Rattle.szg_count.specs.Groups.{Nibbles, counted, size_of, ways_of, group_ways, groups_of, product}
 use Rattle.szg_count.specs.Views.{group_at, groups_in_slot_order}
-use Rattle.szg_file.specs.Parts.{slots_with}
-use Rattle.szg_file.specs.Contents.{Part, Slot, part_slots, slots_from}
+use Rattle.szg_file.specs.Contents.{Part, Slot, order_of, part_slots, side_numbers, slots_from}
 
 -- the items of a list by their indexes
 indexed_from : (front xs : List ℕ) → map (slice_index (front ++ xs)) (range_with_len (length front) (length xs)) ≡ xs
@@ -89,7 +90,18 @@ numbers-split a (suc n) rest =
     ∙ ap (λ (z : List ℕ). a ∷ z) (numbers-split (a + 1) n rest)
     ∙ ap (λ (k : ℕ). a ∷ (range_with_len (a + 1) n ++ k ∷ range_with_len (k + 1) rest)) there
 
--- a part has at most two subtables
-pub slots_few : (part first : ℕ) (second : Option ℕ) → length (slots_with part first second) ≤ 2
-slots_few part first None = omega arith
-slots_few part first (Some second) = omega arith
+-- ---- a part has at most two subtables
+
+pub few_either : (b : Bool) (xs ys : List ℕ) (most : ℕ) → length xs ≤ most → length ys ≤ most → length (cond b xs ys) ≤ most
+few_either true xs ys most p q = p
+few_either false xs ys most p q = q
+
+pub few_sides : (sides : Sides) (kind : Kind) → length (side_numbers sides kind) ≤ 2
+few_sides sides Wdl = few_either (is_symmetric sides) (0 ∷ []) (0 ∷ 1 ∷ []) 2 (omega arith) (omega arith)
+few_sides sides Dtz = omega arith
+
+abbrev pub slot_of : Sides → ℕ → ℕ → Part → Slot
+slot_of material number side part = record { part = number; side = side; size = size_of material number (order_of side part) }
+
+pub slots_few : (material : Sides) (kind : Kind) (number : ℕ) (part : Part) → length (part_slots material (side_numbers material kind) number part) ≤ 2
+slots_few material kind number part = omega (arith, few_sides material kind, length-map (side_numbers material kind) (λ side. slot_of material number side part))

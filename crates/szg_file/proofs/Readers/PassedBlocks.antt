@@ -49,7 +49,8 @@ valid_at f view {dev = dev} {i = i} {k = k} v at h =
 
 -- ---- one block
 
-field_is : (n place : ℕ) (bytes chunk filled : List ℕ) → verdict (field n means) place bytes ≡ good chunk filled [] → bytes ≡ chunk
+-- the bytes of a field that was read are its meaning
+pub field_is : (n place : ℕ) (bytes chunk filled : List ℕ) → verdict (field n means) place bytes ≡ good chunk filled [] → bytes ≡ chunk
 field_is n place bytes chunk filled e =
     elim (cases_lt (length bytes) n) [
       | inl short ↦
@@ -62,7 +63,21 @@ field_is n place bytes chunk filled e =
           sym (take-append-drop n bytes) ∙ ap (λ (z : List ℕ). take n bytes ++ z) none ∙ append-nil (take n bytes) ∙ front
     ]
 
-moved_chunk : {R : Type 0} (n : ℕ) (chunk : List ℕ) {f m : ReaderState}
+-- a field has no padding bytes
+pub field_unfilled : (n place : ℕ) (bytes chunk filled : List ℕ) → verdict (field n means) place bytes ≡ good chunk filled [] → filled ≡ []
+field_unfilled n place bytes chunk filled e =
+    elim (cases_lt (length bytes) n) [
+      | inl short ↦
+          let no : truncated (place + length bytes) ≡ good chunk filled [] = sym (field-short n means place bytes short) ∙ e in
+          absurd (cc no)
+      | inr long ↦
+          let is : good (take n bytes) [] (drop n bytes) ≡ good chunk filled [] = sym (field-whole n means place bytes long) ∙ e in
+          let none : [] ≡ filled = cc is in
+          sym none
+    ]
+
+-- the bytes of a field that was read
+pub moved_chunk : {R : Type 0} (n : ℕ) (chunk : List ℕ) {f m : ReaderState}
     {dev : Ghosts R} {i k : R} →
     Reading (field n means) (λ (_ : Unit {0}). chunk) f m dev i k (Ok tt) → since (dev.moved i) (dev.moved k) ≡ chunk
 moved_chunk n chunk {f = f} {dev = dev} {i = i} {k = k} h =

@@ -29,8 +29,8 @@ use Rattle.szg_io.specs.declared.device.Input.{Ghosts}
 use Rattle.szg_io.proofs.DeviceLaws.{Takes-none}
 
 -- an allocation is refused before any byte is read
-pub lacks_first : {A X R : Type 0} (f : Format A) (view : X → A) {o : ReaderState}
-    {dev : Ghosts R} {i : R} → Reading f view o o dev i i (Err Memory)
+pub lacks_first : {A X R : Type 0} (f : Format A) (view : X → A) {o n : ReaderState}
+    {dev : Ghosts R} {i : R} → Reading f view o n dev i i (Err Memory)
 lacks_first f view {o = o} {dev = dev} {i = i} = record { bytes = []; taken = Takes-none dev i 1; answer = (stops-nil f o.place, refl) }
 
 -- a fault is independent of the view
@@ -53,7 +53,7 @@ reads_unfilled slot sub view fault some filled =
 abbrev pub placed_at : Sub → ℕ → PlacedSub
 placed_at sub first = record { sub = sub; first = first }
 
-constant_whole : (bytes : List ℕ) (sub : Sub) (first : ℕ) → layout_of sub ≡ None → whole_sub bytes (placed_at sub first) ≡ subtable_of sub
+pub constant_whole : (bytes : List ℕ) (sub : Sub) (first : ℕ) → layout_of sub ≡ None → whole_sub bytes (placed_at sub first) ≡ subtable_of sub
 constant_whole bytes (Constant flags byte) first e = refl
 constant_whole bytes (Pairs flags block_bits span_bits extra blocks code dict sparse lengths packed) first e = absurd cc
 

@@ -1,13 +1,16 @@
 -- Rows that are read in several pieces, as one field.
-use Rattle.std.proofs.Common.{◌≡◌, ℕ, zero, suc, ◌+◌, ◌*◌, ◌≤◌, List, [], ◌∷◌, ◌++◌, length, map, take, drop, refl, sym, ap, ◌∙◌, arith, Ok, Err}
+use Rattle.std.proofs.Common.{◌≡◌, ℕ, zero, suc, ◌+◌, ◌*◌, ◌≤◌, List, [], ◌∷◌, ◌++◌, length, map, take, drop, refl, sym, ap, ◌∙◌, append-nil, arith, Ok, Err, Vec, Global}
 use Rattle.std.proofs.lemmas.List.{length-append, length-drop, map-append, drop-append-le, take-append-le}
 use Rattle.szg_io.specs.declared.device.Input.{Ghosts}
 use Rattle.szg_file.specs.declared.reading.state.ReaderState.{ReaderState}
 use Rattle.szg_file.specs.declared.fault.ReadFault.{ReadFault}
-use Rattle.szg_file.specs.Contents.{items}
+use Rattle.szg_file.specs.Contents.{items, number_of}
 use Rattle.szg_file.specs.File.{rows_field}
 use Rattle.szg_file.specs.Format.{field, means, ◌>>=◌}
+use Rattle.szg_file.specs.Held.{numbers_field}
 use Rattle.szg_file.specs.Reading.{Reading}
+use Rattle.szg_file.proofs.Readers.KeptReads.{mapped_fault, mapped_meaning}
+use Rattle.szg_file.proofs.Readers.PassedBlocks.{field_is, field_unfilled}
 use Rattle.szg_file.proofs.Readers.ReadingLaws.{reads_then, reads_stopped, reads_nothing}
 use Rattle.szg_file.proofs.Readers.Taken.{reads_as, reads_equal, reads_no_bytes, field_more, field_stopped}
 
@@ -75,3 +78,31 @@ rows_stopped f size n k rest count list view view' fault sum h chunk =
     reads_stopped (field (size * count) means) (λ b. means (map f (items size count b))) view view' fault
     (reads_equal (field (size * n + (size * k + rest)) means) (field (size * count) means) view (Err fault) (ap (λ (c : ℕ). field c means) sum)
     (field_stopped (size * n) (size * k) rest (λ (_ : Unit {0}). h.bytes) view view tt fault h.read chunk))
+
+-- ---- numbers that were read and decoded, and their bytes
+
+pub record NumbersTaken {Y R : Type 0} (count : ℕ) (list : List ℕ) (y : Y) (o m : ReaderState) (dev : Ghosts R) (i j : R) : Type 0 where
+  pub bytes : List ℕ
+  pub numbers : list ≡ map number_of (items 2 count bytes)
+  pub long : length bytes ≡ 2 * count
+  pub fill : m.fill.items ≡ o.fill.items
+  pub read : Reading (field (2 * count) means) (λ (_ : Y). bytes) o m dev i j (Ok y)
+
+pub numbers_taken : {R : Type 0} (count : ℕ) (list : Vec ℕ Global) {o m : ReaderState} {dev : Ghosts R} {i j : R} → m.place ≡ o.place + 2 * count →
+    Reading (numbers_field count) (λ (l : Vec ℕ Global). l.items) o m dev i j (Ok list) → NumbersTaken count list.items list o m dev i j
+numbers_taken count list {o = o} place h =
+    let found = mapped_meaning (field (2 * count) means) (λ (bytes : List ℕ). map number_of (items 2 count bytes)) (λ (l : Vec ℕ Global). l.items) list h in
+    let is : found.2.bytes ≡ found.0 = field_is (2 * count) o.place found.2.bytes found.0 found.2.answer.0.filled found.2.answer.0.whole in
+    let at = found.2.answer.0.place in
+    let none : found.2.answer.0.filled ≡ [] = field_unfilled (2 * count) o.place found.2.bytes found.0 found.2.answer.0.filled found.2.answer.0.whole in
+    record {
+      bytes = found.0;
+      numbers = sym found.1;
+      long = ap (λ (l : List ℕ). length l) (sym is) ∙ omega (arith, at, place);
+      fill = found.2.answer.0.fill ∙ ap (λ (l : List ℕ). o.fill.items ++ l) none ∙ append-nil o.fill.items;
+      read = found.2;
+    }
+
+pub numbers_stopped : {R : Type 0} (count : ℕ) (fault : ReadFault) {o m : ReaderState} {dev : Ghosts R} {i j : R} →
+    Reading (numbers_field count) (λ (l : Vec ℕ Global). l.items) o m dev i j (Err fault) → Reading (field (2 * count) means) (λ (l : List ℕ). l) o m dev i j (Err fault)
+numbers_stopped count fault h = mapped_fault (field (2 * count) means) (λ (bytes : List ℕ). map number_of (items 2 count bytes)) (λ (l : Vec ℕ Global). l.items) (λ (l : List ℕ). l) fault h

@@ -3,7 +3,7 @@ use Rattle.std.proofs.Common.{◌≡◌, ℕ, ◌+◌, ◌-◌, List, [], ◌++�
 use Rattle.std.specs.Prelude.{Result}
 use Rattle.std.proofs.Math.Seq.{take-length, take-add, take-append_seam, drop-append_seam}
 use Rattle.std.proofs.lemmas.Bool.{cases_lt}
-use Rattle.std.proofs.lemmas.List.{drop_all, drop_at, take_at, length-append, length-drop, length-take-le, drop-drop, take-append-drop}
+use Rattle.std.proofs.lemmas.List.{drop_all, drop_at, take_all, take_at, take-take, length-append, length-drop, length-take-le, drop-drop, take-append-drop}
 use Rattle.szg_io.specs.Moved.{Takes}
 use Rattle.szg_file.specs.declared.reading.state.ReaderState.{ReaderState}
 use Rattle.szg_file.specs.declared.fault.ReadFault.{ReadFault}
@@ -144,6 +144,28 @@ tail_written before chunk after at size long sized =
     ∙ ap (λ (z : List ℕ). drop at (take (at + size) ((take at before ++ z) ++ after))) (append-nil chunk)
     ∙ ap (drop at) (take_at (take at before ++ chunk) after (at + size) whole)
     ∙ drop_at (take at before) chunk at front
+
+-- the list before that index stays
+pub head_kept : (list before chunk after more : List ℕ) (at size : ℕ) → length list ≡ at → length before ≡ at + size → before ≡ take (at + size) list ++ more →
+    take (length list) (take (at + size) ((take at before ++ (chunk ++ drop (length before - at) (drop at before))) ++ after)) ≡ list
+head_kept list before chunk after more at size here long is =
+    let rest : List ℕ = chunk ++ drop (length before - at) (drop at before) in
+    let front : length (take at before) ≡ at = length-take-le at before (omega (arith, long)) in
+    let whole : take (at + size) list ≡ list = take_all (at + size) list (omega (arith, here)) in
+    let head : take at before ≡ list = ap (take at) (is ∙ ap (λ (z : List ℕ). z ++ more) whole) ∙ take_at list more at here in
+    ap (λ (n : ℕ). take n (take (at + size) ((take at before ++ rest) ++ after))) here
+    ∙ take-take at (at + size) ((take at before ++ rest) ++ after) (omega arith)
+    ∙ ap (take at) (append_assoc (take at before) rest after)
+    ∙ take_at (take at before) (rest ++ after) at front
+    ∙ head
+
+pub tail_long : (before chunk after : List ℕ) (at size : ℕ) → length before ≡ at + size → length chunk ≡ size →
+    length (take (at + size) ((take at before ++ (chunk ++ drop (length before - at) (drop at before))) ++ after)) ≡ at + size
+tail_long before chunk after at size long sized =
+    let left : List ℕ = drop (length before - at) (drop at before) in
+    let front : length (take at before) ≡ at = length-take-le at before (omega (arith, long)) in
+    length-take-le (at + size) ((take at before ++ (chunk ++ left)) ++ after)
+    (omega (arith, front, sized, length-append (take at before ++ (chunk ++ left)) after, length-append (take at before) (chunk ++ left), length-append chunk left))
 
 -- a field of no bytes
 pub reads_no_bytes : {X R : Type 0} (size : ℕ) (view : X → List ℕ) (x : X) {o : ReaderState}

@@ -10,17 +10,18 @@ use Rattle.std.proofs.Math.Pow.{pow_mono}
 use Rattle.szg_values.specs.declared.Kind.{Kind}
 use Rattle.szg_values.specs.declared.Kind.TheVariants.{Wdl, Dtz}
 use Rattle.szg_values.specs.Men.{code_of}
-use Rattle.szg_values.specs.Material.{Sides, IsMaterial, is_count, man_codes, is_symmetric, has_pawns}
-use Rattle.szg_count.specs.Groups.{has_other_pawns, size_of}
+use Rattle.szg_values.specs.Material.{Sides, IsMaterial, is_count, man_codes, has_pawns}
+use Rattle.szg_count.specs.Groups.{has_other_pawns}
 use Rattle.szg_block.specs.Layout.{SparseEntry}
 use Rattle.szg_block.specs.Block.{start}
 use Rattle.szg_block.specs.Sound.{entry_count}
 use Rattle.szg_block.proofs.Deciding.{has_total-true}
-use Rattle.szg_file.specs.Contents.{Part, Head, Subtable, constant, pairs, layout_of, Map, narrow, wide, Contents, bytes_of, gap, part_numbers, side_numbers, order_bytes, order_of, Slot, slots, slots_from, part_slots}
+use Rattle.szg_file.specs.Contents.{Part, Head, Subtable, constant, pairs, layout_of, Map, narrow, wide, Contents, bytes_of, gap, part_numbers, side_numbers, order_bytes, Slot, slots, slots_from, part_slots}
 use Rattle.szg_file.specs.File.{magic_of}
 use Rattle.szg_file.specs.FileOf.{Section, written, padding, spare, fill_of, bytes_with, joined, queried, part_sections, head_sections, list_sections, map_sections, maps_sections, sparse_sections, lengths_sections, blocks_sections, sections, file_of, fill_asked}
 use Rattle.szg_file.specs.Accepted.{SideBySide, AreNumbers, AreBytes, IsPart, IsSubtable, IsPacked, IsMapOf, AreMaps, IsAccepted}
 use Rattle.szg_file.specs.Tally.{length_of, end_of, fill_from}
+use Rattle.szg_file.proofs.Readers.PartLaws.{few_either, few_sides, slot_of}
 
 -- ---- offsets
 
@@ -206,19 +207,8 @@ few_orders sides = elim (has_other_pawns sides) as (λ b. cond b 2 1 ≤ 2) [ tr
 part_total : (sides : Sides) (kind : Kind) → IsMaterial sides → (number : ℕ) (part : Part) → IsPart sides kind part → total_of length_of (part_sections part) ≤ 8
 part_total sides kind m number part h = omega (arith, h.order.0, h.men.0, few_men sides m, few_orders sides)
 
-few_either : (b : Bool) (xs ys : List ℕ) (most : ℕ) → length xs ≤ most → length ys ≤ most → length (cond b xs ys) ≤ most
-few_either true xs ys most p q = p
-few_either false xs ys most p q = q
-
 few_parts : (sides : Sides) → length (part_numbers sides) ≤ 4
 few_parts sides = few_either (has_pawns sides) (0 ∷ 1 ∷ 2 ∷ 3 ∷ []) (0 ∷ []) 4 (omega arith) (omega arith)
-
-few_sides : (sides : Sides) (kind : Kind) → length (side_numbers sides kind) ≤ 2
-few_sides sides Wdl = few_either (is_symmetric sides) (0 ∷ []) (0 ∷ 1 ∷ []) 2 (omega arith) (omega arith)
-few_sides sides Dtz = omega arith
-
-abbrev slot_of : Sides → ℕ → ℕ → Part → Slot
-slot_of material number side part = record { part = number; side = side; size = size_of material number (order_of side part) }
 
 few_slots : (material : Sides) (sides : List ℕ) → length sides ≤ 2 → (number : ℕ) (parts : List Part) → length (slots_from material sides number parts) ≤ 2 * length parts
 few_slots material sides h number [] = omega arith

@@ -5,9 +5,12 @@ ghost use Rattle.szg_block.specs.Subtable.{layout_of, IsHeaded};
 ghost use Rattle.szg_file.specs.Fetching.{IsSpot};
 ghost use Rattle.szg_file.specs.Placed.{blocks_size};
 
-use crate::lookup::{Slotted, constant_value, slotted_at};
+use crate::begun::Slot;
+use crate::lookup::constant_value;
 use crate::opened::front_table::FrontTable;
 use crate::reading::blocks::block_bytes;
+use crate::reading::dropping::PlacedSub;
+use crate::table_index::Numbered;
 use std::marker::Model;
 use szg_block::{ValueLocation, checked_value, locate_value};
 
@@ -40,15 +43,14 @@ pub struct BlockSpot {
 
 /// Returns the location of value `i` of a subtable. None in a constant subtable.
 #[inline(always)]
-fn spot_of(found: &Slotted, i: u64) -> Option<BlockSpot>
-    requires head { IsHeaded found.now.placed.now.sub }
-    requires index { IsLocatable found.now.placed.now.sub found.now.slot.size }
-    requires inside { found.now.placed.now.first + blocks_size found.now.placed.now.sub < 2 ^ 64 }
-    requires below { i < found.now.slot.size }
-    ensures none { IfNone result (layout_of found.now.placed.now.sub ≡ None) }
-    ensures spot { IfSome result (IsSpot found.now.placed.now i) }
+fn spot_of(slot: Slot, placed: &PlacedSub, i: u64) -> Option<BlockSpot>
+    requires head { IsHeaded placed.now.sub }
+    requires index { IsLocatable placed.now.sub slot.size }
+    requires inside { placed.now.first + blocks_size placed.now.sub < 2 ^ 64 }
+    requires below { i < slot.size }
+    ensures none { IfNone result (layout_of placed.now.sub ≡ None) }
+    ensures spot { IfSome result (IsSpot placed.now i) }
 {
-    let Slotted { slot, placed } = *found;
     let value = locate_value(&placed.sub, slot.size, i)?;
     let count = block_bytes(&placed.sub);
     Some(BlockSpot {
@@ -65,7 +67,8 @@ pub struct Located<'a> {
     part: u8,
     side: u8,
     index: u64,
-    found: Slotted<'a>,
+    slot: Slot,
+    placed: &'a PlacedSub,
     // none in a constant subtable
     spot: Option<BlockSpot>,
 }
@@ -77,7 +80,7 @@ impl<'a> Model for Located<'a> {
 
     ghost view = { λ l. record { kept = l.front.now; part = l.part; side = l.side; index = l.index } };
 
-    ghost invariant = { λ l. IsLocated (record { kept = l.front.now; part = l.part; side = l.side; index = l.index }) l.found.slot l.found.placed.now l.spot };
+    ghost invariant = { λ l. IsLocated (record { kept = l.front.now; part = l.part; side = l.side; index = l.index }) l.slot l.placed.now l.spot };
 }
 
 impl<'a> Located<'a> {
@@ -117,13 +120,13 @@ impl<'a> Located<'a> {
         ensures spelled { IfOk result (λ value. (content : List ℕ) → IsFrontOf self.now.kept content → IfSome (located_at content self.now) (λ found. IsSpelledBy block.now found.1 self.now.index (Some value))) }
     {
         let Some(spot) = self.spot else {
-            return Ok(constant_value(self.front.index().kind(), &self.found.placed.sub));
+            return Ok(constant_value(self.front.index().kind(), &self.placed.sub));
         };
         if block.len() as u64 != spot.count {
             return Err(FetchFault::Source);
         }
-        let Slotted { slot, placed } = self.found;
-        match checked_value(&placed.sub, slot.size, self.index, spot.value, block) {
+        let slot = self.slot;
+        match checked_value(&self.placed.sub, slot.size, self.index, spot.value, block) {
             Ok(value) => Ok(value),
             Err(_) => Err(FetchFault::Block {
                 number: spot.value.block,
@@ -146,16 +149,19 @@ impl FrontTable {
         requires { IsSomeAnd (slot_in self.now.index part side) (λ slot. i < slot.size) }
         ensures { result ≡ record { kept = self.now; part = part; side = side; index = i } }
     {
-        let Some(found) = slotted_at(self.index.slots(), &self.subs, part, side) else {
+        let Some(found) = self.index.find(part, side) else {
             unreachable!()
         };
-        let spot = spot_of(&found, i);
+        let Numbered { number, slot } = found;
+        let placed = &self.subs[number];
+        let spot = spot_of(slot, placed, i);
         Located {
             front: self,
             part,
             side,
             index: i,
-            found,
+            slot,
+            placed,
             spot,
         }
     }

@@ -1,11 +1,9 @@
 //! Blocks that are checked and dropped: only the offset of a subtable's first block is kept.
-ghost use Rattle.std.specs.Prelude.{◌≡◌, ◌+◌, ◌*◌, ◌≤◌, ◌<◌, ◌^◌, length, max, map, OnOk, IfOk, IfSome, IsSomeAnd, OnErr, Err};
+ghost use Rattle.std.specs.Prelude.{◌≡◌, ◌+◌, ◌*◌, ◌≤◌, ◌<◌, ◌^◌, length, max, map, OnOk, IfOk, IfSome, OnErr, Err};
 ghost use Rattle.std.specs.List.{AllByRecursion};
-ghost use Rattle.szg_code.specs.Acceptance.{IsCode};
-ghost use Rattle.szg_block.specs.Block.{start};
-ghost use Rattle.szg_block.specs.Sound.{SpellsNeeded};
+ghost use Rattle.szg_block.specs.Expansion.{joined_values};
 ghost use Rattle.szg_block.specs.Subtable.{layout_of, IsHeaded};
-ghost use Rattle.szg_file.specs.File.{each, block_field, blocks_field};
+ghost use Rattle.szg_file.specs.File.{each, blocks_field, blocks_from};
 ghost use Rattle.szg_file.specs.Placed.{since, whole_sub, Fits};
 ghost use Rattle.szg_file.specs.Reading.{Reading};
 ghost use Rattle.szg_file.specs.Streaming.{Accepted, values_if, wanted_values};
@@ -13,13 +11,14 @@ ghost use Rattle.szg_file.specs.Values.{slotted, values_in};
 
 use crate::begun::Measured;
 use crate::fault::{ReadFault, Reason};
+use crate::lookup::constant_value;
 use crate::reading::blocks::{block_bytes, is_constant};
 use crate::reading::sink::ValueSink;
 use crate::reading::state::{ReaderState, append};
-use crate::reading::streaming::{put_constant, stream_blocks};
 use crate::reading::taking::{take_field, take_fill};
+use crate::typed::code_fits;
 use std::alloc::Global;
-use szg_block::{Sub, block_count, check_block_from};
+use szg_block::{Sub, block_count, check_block_from, decode_block, values_in};
 use szg_io::Input;
 use szg_values::Kind;
 
@@ -87,7 +86,11 @@ fn pass_sub<R: Input, W, K: ValueSink<W>>(
 {
     let Measured { slot, sub, .. } = measured;
     if is_constant(&sub) {
-        put_constant(kind, &sub, slot, sink, out)?;
+        if sink.wants(slot.part, slot.side) {
+            let Ok(()) = sink.put_same(constant_value(kind, &sub), slot.size, out) else {
+                return Err(ReadFault::Memory);
+            };
+        }
         return Ok(PlacedSub { sub, first: 0 });
     }
     let size = block_bytes(&sub) as usize;
@@ -96,17 +99,9 @@ fn pass_sub<R: Input, W, K: ValueSink<W>>(
     let first = state.place;
     input.expect(u64::from(block_count(&sub)) * block_bytes(&sub));
     let wanted = sink.wants(slot.part, slot.side);
-    let mut values = Vec::new(alloc);
+    let block = &mut buffer[..size];
     stream_blocks(
-        wanted,
-        &mut buffer[..size],
-        &mut values,
-        &sub,
-        slot.size,
-        input,
-        state,
-        sink,
-        out,
+        alloc, wanted, block, &sub, slot.size, input, state, sink, out,
     )?;
     Ok(PlacedSub { sub, first })
 }
@@ -124,34 +119,57 @@ fn make_room(buffer: &mut Vec<u8>, size: usize) -> Result<(), ReadFault>
     Ok(())
 }
 
-/// Reads block `n` into a buffer of a block's length and checks it there. `before` is the number of values in the
-/// blocks before it.
-pub(crate) fn pass_block<R: Input>(
+/// Reads the blocks of a subtable in order, each with its check, into a buffer of a block's length. Hands the values that
+/// each needs to a sink, if they are wanted. Errors: `Memory` too if the sink takes no more values.
+fn stream_blocks<R: Input, W, K: ValueSink<W>>(
+    alloc: Global,
+    wanted: bool,
     buffer: &mut [u8],
     sub: &Sub,
     size: u64,
-    n: u32,
-    before: u64,
     input: &mut R,
     state: &mut ReaderState,
+    sink: &mut K,
+    out: &mut W,
 ) -> Result<(), ReadFault>
-    requires place { state.old.place < 2 ^ 61 + 2 ^ 50 }
+    requires place { state.old.place < 2 ^ 61 }
     requires room { IfSome (layout_of sub.now) (λ layout. length buffer.old ≡ 2 ^ layout.block_bits) }
     requires short { length buffer.old ≤ 2 ^ 18 }
     requires headed { IsHeaded sub.now }
-    requires code { IfSome (layout_of sub.now) (λ layout. IsCode layout.code) }
-    requires before { IsSomeAnd (layout_of sub.now) (λ layout. before ≡ start layout.lengths n) }
-    ensures block { IfSome (layout_of sub.now) (λ layout. Reading (block_field layout size n) (λ _. since (R.moved input.old) (R.moved input.new)) state.old state.new R.Input input.old input.new result) }
-    ensures place { OnOk result (state.new.place ≡ state.old.place + length buffer.old) }
+    ensures blocks { IfSome (layout_of sub.now) (λ layout. Reading (blocks_from layout size 0 layout.blocks) (λ _. since (R.moved input.old) (R.moved input.new)) state.old state.new R.Input input.old input.new result) }
+    ensures count { IfSome (layout_of sub.now) (λ layout. OnOk result (state.new.place ≡ state.old.place + layout.blocks * 2 ^ layout.block_bits)) }
+    ensures place { OnOk result (state.new.place ≤ state.old.place + 2 ^ 50) }
     ensures growth { OnOk result (state.new.growth ≡ state.old.growth) }
-    ensures held { OnOk result (buffer.new ≡ since (R.moved input.old) (R.moved input.new)) }
-    ensures words { OnOk result (IsSomeAnd (layout_of sub.now) (λ layout. SpellsNeeded layout size n buffer.new)) }
+    ensures accepted { IfSome (layout_of sub.now) (λ layout. OnOk result (Accepted K.accepts (values_if wanted (joined_values layout (since (R.moved input.old) (R.moved input.new)) size)) sink.old out.old sink.new out.new)) }
+    ensures wanted { K.wanted sink.new ≡ K.wanted sink.old }
 {
-    let place = state.place;
-    take_field(input, state, buffer)?;
-    let reason = Reason::Word;
-    match check_block_from(sub, size, n, before, buffer) {
-        Ok(()) => Ok(()),
-        Err(_) => Err(ReadFault::Refused { place, reason }),
+    let Sub::Pairs {
+        blocks,
+        code,
+        lengths,
+        ..
+    } = sub
+    else {
+        return Ok(());
+    };
+    code_fits(code);
+    let mut values = Vec::new(alloc);
+    let mut before = 0;
+    'each_block: for n in 0..*blocks {
+        let place = state.place;
+        take_field(input, state, buffer)?;
+        let Ok(()) = check_block_from(sub, size, n, before, buffer) else {
+            let reason = Reason::Word;
+            return Err(ReadFault::Refused { place, reason });
+        };
+        if wanted {
+            values.clear();
+            decode_block(sub, size, n, before, buffer, &mut values)?;
+            let Ok(()) = sink.put(values.as_slice(), out) else {
+                return Err(ReadFault::Memory);
+            };
+        }
+        before += values_in(lengths, n);
     }
+    Ok(())
 }

@@ -28,6 +28,8 @@ use szg_pairs::{Dict, DictFault};
 ///
 /// `BlockBits`, `SpanBits`, `CodeLengths`, `LowestOrder`, `TooFull`, `Child`, `Cycle` and `LongSymbol` are checked
 /// in the order of a header's bytes.
+// Not inlined, so that its temporaries take no stack while `read_front` reads the block lengths.
+#[inline(never)]
 pub(crate) fn read_heads<R: Input>(
     alloc: Global,
     slots: &[Slot],

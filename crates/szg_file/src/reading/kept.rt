@@ -7,7 +7,7 @@ ghost use Rattle.szg_file.specs.Kept.{IsKept, ReadingOf};
 use crate::begun::KeptLengths;
 use crate::fault::ReadFault;
 use crate::reading::state::{ReaderState, grow};
-use crate::reading::taking::{CHUNK, append_numbers, take_bytes};
+use crate::reading::taking::{CHUNK, take_numbers};
 use std::alloc::Global;
 use szg_io::Input;
 
@@ -114,9 +114,7 @@ pub(crate) fn take_kept<R: Input>(
     let mut left = count;
     'chunks: while left > 0 {
         let chunk = left.min(CHUNK / 2);
-        let rows = take_bytes(alloc, 2 * chunk, input, state)?;
-        let mut numbers = Vec::new(alloc);
-        append_numbers(rows.as_slice(), &mut numbers, state)?;
+        let numbers = take_numbers(alloc, chunk, input, state)?;
         kept.add(numbers.as_slice(), limit, last, state)?;
         left -= chunk;
     }

@@ -19,6 +19,8 @@ use szg_io::Input;
 use szg_values::Kind;
 
 /// Reads the maps of a DTZ file, one item per part, and the padding after them. A WDL file has none.
+// Not inlined, so that its temporaries take no stack while `read_front` reads the block lengths.
+#[inline(never)]
 pub(crate) fn read_maps<R: Input>(
     alloc: Global,
     kind: Kind,

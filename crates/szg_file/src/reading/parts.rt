@@ -1,11 +1,11 @@
-ghost use Rattle.std.specs.Prelude.{ℕ, ◌≡◌, ◌+◌, ◌*◌, ◌≤◌, ◌<◌, ◌^◌, ◌∷◌, ◌++◌, [], length, map, if◌then◌else◌, None, OnOk, IfOk, IfErr, IfSome, OnErr, Err};
+ghost use Rattle.std.specs.Prelude.{ℕ, ◌≡◌, ◌+◌, ◌*◌, ◌≤◌, ◌<◌, ◌^◌, ◌∷◌, ◌++◌, [], length, map, if◌then◌else◌, None, OnOk, IfOk, IfErr, OnErr, Err};
 ghost use Rattle.std.specs.List.{range_with_len};
 ghost use Rattle.szg_count.specs.Groups.{IsPart, nibbles_of, order_fault, size_of};
 ghost use Rattle.szg_file.specs.Contents.{slots, part_slots, part_numbers, side_numbers, order_bytes};
 ghost use Rattle.szg_file.specs.File.{each, part_field, part_checks, order_check};
 ghost use Rattle.szg_file.specs.Format.{means, refuses};
 ghost use Rattle.szg_file.specs.Held.{part_of};
-ghost use Rattle.szg_file.specs.Parts.{part_with, slots_with};
+ghost use Rattle.szg_file.specs.Parts.{part_with};
 ghost use Rattle.szg_file.specs.Reading.{Reading};
 ghost use Rattle.szg_file.specs.Grown.{HasCounted, part_length, parts_lengths};
 
@@ -51,73 +51,65 @@ pub fn has_two_sides(material: &Material, kind: Kind) -> bool
     }
 }
 
-/// Returns the number of positions of a side of a part that begins at offset `place`. Errors: the offset and the reason
-/// of the refusal, for the first failing check of the side's order.
-fn side_size(
+/// Returns the slot of a side of a part that begins at offset `place`. Errors: the offset and the reason of the refusal,
+/// for the first failing check of the side's order.
+fn slot_of_side(
     material: &Material,
     part: u8,
     side: u8,
     place: u64,
     order: &[u8],
     men: &[u8],
-) -> Result<u64, (u64, Reason)>
+) -> Result<Slot, (u64, Reason)>
     requires part { IsPart material.now part }
     requires side { side < 2 }
     requires place { place < 2 ^ 61 }
     requires order { length order.now ≤ 2 }
     requires men { length men.now ≤ 6 }
     ensures is_valid { OnOk result (order_fault material.now (nibbles_of side order.now men.now) ≡ None) }
-    ensures size { IfOk result (λ size. size ≡ size_of material.now part (nibbles_of side order.now men.now)) }
-    ensures fits { IfOk result (λ size. size < 2 ^ 33) }
+    ensures slot { IfOk result (λ slot. slot ≡ record { part = part; side = side; size = size_of material.now part (nibbles_of side order.now men.now) }) }
     ensures refuses { IfErr result (λ refusal. order_check place (length order.now) (order_fault material.now (nibbles_of side order.now men.now)) ≡ refuses refusal.0 refusal.1) }
 {
     let after = place + order.len() as u64;
     match Groups::of(material, part, &Order::of_side(side, order, men)) {
-        Ok(groups) => Ok(groups.size()),
+        Ok(groups) => Ok(Slot {
+            part,
+            side,
+            size: groups.size(),
+        }),
         Err(OrderFault::Pieces) => Err((after, Reason::Pieces)),
         Err(OrderFault::PawnsFirst) => Err((after, Reason::PawnsFirst)),
         Err(OrderFault::OrderPlace) => Err((place, Reason::OrderPlace)),
     }
 }
 
-/// The sizes of the sides of a part.
-#[derive(Clone, Copy)]
-pub struct SideSizes {
-    pub first: u64,
-    pub second: Option<u64>,
-}
-
-/// Returns the sizes of the sides of a part that begins at offset `place`. Errors: the offset and the reason of its
-/// refusal.
-pub(crate) fn part_sizes(
+/// Appends the slots of a part that begins at offset `place`. Errors: the offset and the reason of its refusal.
+pub(crate) fn push_slots(
     material: &Material,
     kind: Kind,
     part: u8,
     place: u64,
     order: &[u8],
     men: &[u8],
-) -> Result<SideSizes, (u64, Reason)>
+    slots: &mut ArrayVec<Slot, 8>,
+) -> Result<(), (u64, Reason)>
     requires part { IsPart material.now part }
     requires order { length order.now ≡ order_bytes material.now }
     requires men { length men.now ≤ 6 }
     requires place { place < 2 ^ 61 }
+    requires room { length slots.old.items ≤ 6 }
     ensures passes { OnOk result (part_checks material.now kind place (part_with order.now men.now) ≡ means tt) }
-    ensures slots { IfOk result (λ sizes. part_slots material.now (side_numbers material.now kind) part (part_with order.now men.now) ≡ slots_with part sizes.first sizes.second) }
-    ensures fits { IfOk result (λ sizes. (sizes.first < 2 ^ 33) × IfSome sizes.second (λ second. second < 2 ^ 33)) }
+    ensures slots { OnOk result (slots.new.items ≡ slots.old.items ++ part_slots material.now (side_numbers material.now kind) part (part_with order.now men.now)) }
     ensures refuses { IfErr result (λ refusal. part_checks material.now kind place (part_with order.now men.now) ≡ refuses refusal.0 refusal.1) }
 {
-    let first = side_size(material, part, 0, place, order, men)?;
+    let first = slot_of_side(material, part, 0, place, order, men)?;
+    slots.push(first);
     if !has_two_sides(material, kind) {
-        return Ok(SideSizes {
-            first,
-            second: None,
-        });
+        return Ok(());
     }
-    let second = side_size(material, part, 1, place, order, men)?;
-    Ok(SideSizes {
-        first,
-        second: Some(second),
-    })
+    let second = slot_of_side(material, part, 1, place, order, men)?;
+    slots.push(second);
+    Ok(())
 }
 
 /// Returns a copy of bytes that were already read.
@@ -137,24 +129,25 @@ fn copied(alloc: Global, bytes: &[u8], state: &mut ReaderState) -> Result<Vec<u8
     Ok(list)
 }
 
-/// Reads a part; returns it with the sizes of its sides.
+/// Reads a part, and appends the slots of its sides.
 fn read_part<R: Input>(
     alloc: Global,
     material: &Material,
     kind: Kind,
     part: u8,
+    slots: &mut ArrayVec<Slot, 8>,
     input: &mut R,
     state: &mut ReaderState,
-) -> Result<(PartBytes, SideSizes), ReadFault>
+) -> Result<PartBytes, ReadFault>
     requires part { IsPart material.now part }
+    requires room { length slots.old.items ≤ 6 }
     requires place { state.old.place < 2 ^ 60 }
     requires growth_bound { state.old.growth ≤ 2 * state.old.place + 2 ^ 14 }
-    ensures part { Reading (part_field material.now kind) (λ read. part_of read.0) state.old state.new R.Input input.old input.new result }
-    ensures slots { IfOk result (λ read. part_slots material.now (side_numbers material.now kind) part (part_of read.0) ≡ slots_with part read.1.first read.1.second) }
-    ensures fits { IfOk result (λ read. (read.1.first < 2 ^ 33) × IfSome read.1.second (λ second. second < 2 ^ 33)) }
+    ensures part { Reading (part_field material.now kind) part_of state.old state.new R.Input input.old input.new result }
+    ensures slots { IfOk result (λ read. slots.new.items ≡ slots.old.items ++ part_slots material.now (side_numbers material.now kind) part (part_of read)) }
     ensures place { OnOk result (state.new.place ≤ state.old.place + 8) }
     ensures growth { OnOk result (state.new.growth + state.old.place ≡ state.old.growth + state.new.place) }
-    ensures grown { IfOk result (λ read. HasCounted state.old state.new 0 (part_length (part_of read.0))) }
+    ensures grown { IfOk result (λ read. HasCounted state.old state.new 0 (part_length (part_of read))) }
 {
     let place = state.place;
     let orders = order_count(material);
@@ -163,13 +156,12 @@ fn read_part<R: Input>(
     take_field(input, state, &mut chunk[..size])?;
     let order = &chunk[..orders];
     let men = &chunk[orders..size];
-    let sizes = match part_sizes(material, kind, part, place, order, men) {
-        Ok(sizes) => sizes,
-        Err((place, reason)) => return Err(ReadFault::Refused { place, reason }),
-    };
+    if let Err((place, reason)) = push_slots(material, kind, part, place, order, men, slots) {
+        return Err(ReadFault::Refused { place, reason });
+    }
     let order = copied(alloc, order, state)?;
     let men = copied(alloc, men, state)?;
-    Ok((PartBytes { order, men }, sizes))
+    Ok(PartBytes { order, men })
 }
 
 /// Returns the number of parts of a file: four with pawns, else one.
@@ -182,29 +174,9 @@ pub fn part_count(material: &Material) -> u8
     if material.has_pawns() { 4 } else { 1 }
 }
 
-/// Appends the slots of a part.
-pub(crate) fn push_slots(slots: &mut ArrayVec<Slot, 8>, part: u8, sizes: SideSizes)
-    requires part { part < 4 }
-    requires first { sizes.first < 2 ^ 33 }
-    requires second { IfSome sizes.second (λ second. second < 2 ^ 33) }
-    requires room { length slots.old.items ≤ 6 }
-    ensures { slots.new.items ≡ slots.old.items ++ slots_with part sizes.first sizes.second }
-{
-    slots.push(Slot {
-        part,
-        side: 0,
-        size: sizes.first,
-    });
-    if let Some(second) = sizes.second {
-        slots.push(Slot {
-            part,
-            side: 1,
-            size: second,
-        });
-    }
-}
-
 /// Reads the parts.
+// Not inlined, so that its temporaries take no stack while `read_front` reads the block lengths.
+#[inline(never)]
 pub(crate) fn read_parts<R: Input>(
     alloc: Global,
     material: &Material,
@@ -226,9 +198,8 @@ pub(crate) fn read_parts<R: Input>(
         slots: ArrayVec::new(),
     };
     'parts: for part in 0..part_count(material) {
-        let (bytes, sizes) = read_part(alloc, material, kind, part, input, state)?;
+        let bytes = read_part(alloc, material, kind, part, &mut parts.slots, input, state)?;
         append(&mut parts.bytes, bytes, state)?;
-        push_slots(&mut parts.slots, part, sizes);
     }
     Ok(parts)
 }

@@ -1,6 +1,6 @@
 //! Reading from a device: fields, numbers, lists and padding.
 ghost use Rattle.std.specs.Prelude.{◌≡◌, ◌+◌, ◌*◌, ◌/◌, ◌%◌, ◌≤◌, ◌<◌, ◌^◌, ◌++◌, length, map, take, drop, Err, OnOk, IfOk, OnErr, IsErrOf};
-ghost use Rattle.szg_file.specs.Contents.{items, number_of};
+ghost use Rattle.szg_file.specs.Contents.{items};
 ghost use Rattle.szg_file.specs.Format.{field, means};
 ghost use Rattle.szg_file.specs.File.{entry_of_bytes, filled_to, rows_field, number_field};
 ghost use Rattle.szg_file.specs.Held.{sparse_of, numbers_field, sparse_rows, spare_field};
@@ -73,30 +73,6 @@ pub(crate) fn read_number<R: Input>(
 /// read; this is half of that, and the rest is for items that few bytes account for.
 pub(crate) const CHUNK: u64 = 32768;
 
-/// Reads `size` bytes, at most 32,768, and appends them to a list.
-fn take_chunk<R: Input>(
-    list: &mut Vec<u8>,
-    size: usize,
-    input: &mut R,
-    state: &mut ReaderState,
-) -> Result<(), ReadFault>
-    requires most { size ≤ 32768 }
-    requires place { state.old.place + size < 2 ^ 62 }
-    requires growth_bound { state.old.growth ≤ 2 * state.old.place + 2 ^ 15 }
-    ensures field { Reading (field size means) (λ _. drop (length list.old.items) list.new.items) state.old state.new R.Input input.old input.new result }
-    ensures kept { OnOk result (take (length list.old.items) list.new.items ≡ list.old.items) }
-    ensures longer { OnOk result (length list.new.items ≡ length list.old.items + size) }
-    ensures place { OnOk result (state.new.place ≡ state.old.place + size) }
-    ensures growth { OnOk result (state.new.growth ≡ state.old.growth + size) }
-    ensures grown { OnOk result (HasCounted state.old state.new (length list.old.items) (length list.new.items)) }
-{
-    grow(list, size, state)?;
-    let at = list.len();
-    list.resize(at + size, 0)?;
-    take_field(input, state, &mut list[at..])?;
-    Ok(())
-}
-
 /// Reads a field of `count` bytes into a new list, in chunks.
 pub(crate) fn take_bytes<R: Input>(
     alloc: Global,
@@ -136,7 +112,10 @@ pub(crate) fn take_more<R: Input>(
     let mut left = count;
     'chunks: while left > 0 {
         let size = left.min(CHUNK);
-        take_chunk(list, size as usize, input, state)?;
+        grow(list, size as usize, state)?;
+        let at = list.len();
+        list.resize(at + size as usize, 0)?;
+        take_field(input, state, &mut list[at..])?;
         left -= size;
     }
     Ok(())
@@ -187,32 +166,6 @@ pub(crate) fn take_fill<R: Input>(
     take_spare(alloc, (unit - rest) % unit, input, state)
 }
 
-/// Decodes rows of two bytes each, and appends the numbers to a list.
-pub(crate) fn append_numbers(
-    rows: &[u8],
-    list: &mut Vec<u16>,
-    state: &mut ReaderState,
-) -> Result<(), ReadFault>
-    requires even { length rows.now % 2 ≡ 0 }
-    requires most { length rows.now ≤ 32768 }
-    requires growth_bound { state.old.growth ≤ 2 * state.old.place + 2 ^ 15 }
-    requires place { state.old.place < 2 ^ 62 }
-    ensures kept { OnOk result (take (length list.old.items) list.new.items ≡ list.old.items) }
-    ensures numbers { OnOk result (drop (length list.old.items) list.new.items ≡ map number_of (items 2 (length rows.now / 2) rows.now)) }
-    ensures longer { OnOk result (length list.new.items ≡ length list.old.items + length rows.now / 2) }
-    ensures growth { OnOk result (state.new.growth ≡ state.old.growth + length rows.now / 2) }
-    ensures place { OnOk result (state.new.place ≡ state.old.place) }
-    ensures fill { OnOk result (state.new.fill.items ≡ state.old.fill.items) }
-    ensures memory { OnErr result (result ≡ Err ReadFault.Memory) }
-{
-    let count = rows.len() / 2;
-    grow(list, count, state)?;
-    let at = list.len();
-    list.resize(at + count, 0)?;
-    LittleEndian::read_u16_into(rows, &mut list[at..]);
-    Ok(())
-}
-
 /// Reads `count` two-byte numbers as one field, in chunks.
 pub(crate) fn take_numbers<R: Input>(
     alloc: Global,
@@ -233,7 +186,10 @@ pub(crate) fn take_numbers<R: Input>(
     'chunks: while left > 0 {
         let size = left.min(CHUNK / 2);
         let rows = take_bytes(alloc, 2 * size, input, state)?;
-        append_numbers(rows.as_slice(), &mut list, state)?;
+        grow(&mut list, size as usize, state)?;
+        let at = list.len();
+        list.resize(at + size as usize, 0)?;
+        LittleEndian::read_u16_into(rows.as_slice(), &mut list[at..]);
         left -= size;
     }
     Ok(list)

@@ -1,7 +1,7 @@
 //! The sections of a table's file, in file order: one walk, for a sink that writes them or counts them.
 ghost use Rattle.std.specs.Prelude.{◌≡◌, ◌<◌, ◌%◌, ◌^◌, ◌++◌, List, map, flat_map, option_map, Some};
 ghost use Rattle.szg_file.specs.Contents.{bytes_of};
-ghost use Rattle.szg_file.specs.FileOf.{Section, written, padding, spare, part_sections, head_sections, list_sections, map_sections, maps_sections, sparse_sections, lengths_sections, blocks_sections, sections};
+ghost use Rattle.szg_file.specs.FileOf.{Section, written, padding, spare, part_sections, head_sections, list_sections, map_sections, sparse_sections, lengths_sections, blocks_sections, sections};
 ghost use Rattle.szg_file.specs.Held.{part_of, sparse_of, subtable_of, map_of};
 ghost use Rattle.szg_file.specs.Sections.{Took, TakesAs, contents_in};
 
@@ -75,7 +75,10 @@ pub(crate) fn put_sections<W, S: SectionSink<W>>(fields: &FieldsRef, sink: &mut 
     put_each(parts, put_part, sink, out);
     sink.padding(2, out);
     put_each(subs, put_head, sink, out);
-    put_maps(kind, maps, sink, out);
+    if let Kind::Dtz = kind {
+        put_each(maps, put_map, sink, out);
+        sink.padding(2, out);
+    }
     put_each(subs, put_index, sink, out);
     put_each(subs, put_lengths, sink, out);
     put_each(subs, put_blocks, sink, out);
@@ -169,19 +172,6 @@ fn put_map<W, S: SectionSink<W>>(map: &Option<Map>, sink: &mut S, out: &mut W)
         Some(Map::Wide(lists)) => {
             sink.padding(2, out);
             put_each(lists, put_wide_list, sink, out);
-        }
-    }
-}
-
-/// Hands the maps of a DTZ table and the padding after them to a sink.
-fn put_maps<W, S: SectionSink<W>>(kind: Kind, maps: &[Option<Map>], sink: &mut S, out: &mut W)
-    ensures { Took S.takes (maps_sections kind (map (option_map map_of) maps.now)) sink.old out.old sink.new out.new }
-{
-    match kind {
-        Kind::Wdl => {}
-        Kind::Dtz => {
-            put_each(maps, put_map, sink, out);
-            sink.padding(2, out);
         }
     }
 }

@@ -1,5 +1,5 @@
 //! The sink that writes the sections of a file.
-ghost use Rattle.std.specs.Prelude.{◌≡◌, [], ◌∷◌, Ok};
+ghost use Rattle.std.specs.Prelude.{[], ◌∷◌};
 ghost use Rattle.szg_file.specs.Writing.{WritesNext};
 
 use crate::fault::WriteFault;
@@ -7,7 +7,6 @@ use crate::writing::outgoing::{
     Outgoing, put, put_numbers, put_padding, put_spare, put_sparse, put_symbols,
 };
 use crate::writing::sections::SectionSink;
-use arrayvec::ArrayVec;
 use szg_block::Entry;
 use szg_io::Output;
 use szg_pairs::Dict;
@@ -18,26 +17,6 @@ pub struct Writer<'a> {
     pub outgoing: Outgoing<'a>,
     /// The failure, if there was one.
     pub result: Result<(), WriteFault>,
-}
-
-impl<'a> Writer<'a> {
-    /// Creates the writer before the first byte of a file with these padding bytes.
-    pub fn new(fill: &'a [u8]) -> Writer<'a>
-        ensures out { result.outgoing.out ≡ 0 }
-        ensures held { result.outgoing.held.items ≡ [] }
-        ensures fill { result.outgoing.fill.now ≡ fill.now }
-        ensures well { result.result ≡ Ok tt }
-    {
-        let outgoing = Outgoing {
-            out: 0,
-            held: ArrayVec::new(),
-            fill,
-        };
-        Writer {
-            outgoing,
-            result: Ok(()),
-        }
-    }
 }
 
 impl<W: Output> SectionSink<W> for Writer<'_> {

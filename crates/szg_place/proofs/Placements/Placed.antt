@@ -75,7 +75,7 @@ pub record IsManned (sides : Sides) (part : ℕ) (n : Nibbles) (index : ℕ) : T
   pub same : length (concat (sets_stated sides part n index)) ≡ length n.men
   pub men : men_on_squares n.men (concat (sets_stated sides part n index)) ≡ men_stated sides part n index
 
-pub manned : (sides : Sides) (part : ℕ) (n : Nibbles) (index : ℕ) → IsMaterial sides → IsPart sides part → order_fault sides n ≡ None → index < product (counted sides part n).ways →
+manned : (sides : Sides) (part : ℕ) (n : Nibbles) (index : ℕ) → IsMaterial sides → IsPart sides part → order_fault sides n ≡ None → index < product (counted sides part n).ways →
     IsManned sides part n index
 manned sides part n index m p o h =
     let sets = sets_stated sides part n index in let groups = groups_of sides n.men in
@@ -147,6 +147,15 @@ pub placed_at : {t : Index} {part side index : ℕ} {m : Sides} {n : Nibbles} {s
     slice ≡ items → items ≡ men_stated m part n index → placement_fault slice ≡ None
 placed_at a none e f =
     ap placement_fault (e ∙ f ∙ men_at a) ∙ (answered_at a none).placement
+
+pub manned_at : {t : Index} {part side index : ℕ} {m : Sides} {n : Nibbles} → IsAt t part side index m n → IsManned m part n index
+manned_at {t} {part} {side} {index} {m} {n} a = manned m part n index a.material (part_at a) (ordered_at a) (below_at a)
+
+-- men with these codes on the squares of the index
+pub men_placed : {t : Index} {part side index : ℕ} {m : Sides} {n : Nibbles} {codes squares : List ℕ} → IsAt t part side index m n → codes ≡ n.men → squares ≡ concat (sets_stated m part n index) →
+    men_on_squares codes squares ≡ men_stated m part n index
+men_placed {m = m} {n} {codes} {squares} a e f =
+    ap (λ (l : List ℕ). men_on_squares l squares) e ∙ ap (λ (l : List ℕ). men_on_squares n.men l) f ∙ (manned_at a).men
 
 pub board_same : {t : Index} {part side index : ℕ} {m : Sides} {n : Nibbles} {slice items : List PlacedMan} {mover : Color} → IsAt t part side index m n →
     slice ≡ items → items ≡ men_stated m part n index → mover ≡ mover_at (numbering_in t) part side →

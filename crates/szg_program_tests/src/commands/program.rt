@@ -9,15 +9,16 @@ use std::process::{Abort, ExitCode};
 use std::rt::Files;
 use std::test::Fail;
 use std::time::Clock;
-use szg_commands::{ProgressLine, ReadLine, no_words_status, run_given};
+use szg_commands::{no_words_status, run_given};
+use szg_runs::{ProgressLine, ReadLine};
 
 /// Standard error in memory.
 #[derive(Drop)]
-pub struct Errors {
+pub struct Stderr {
     text: RefCell<String>,
 }
 
-impl Eprint for Errors {
+impl Eprint for Stderr {
     fn eprint<D: Display + Drop>(&self, value: D) -> io::Result<()> {
         let mut text = self.text.try_borrow_mut()?;
         write!(text, "{value}")?;
@@ -31,10 +32,10 @@ impl Eprint for Errors {
     }
 }
 
-impl Errors {
+impl Stderr {
     /// Creates it without a text.
-    pub fn new(alloc: Global) -> Errors {
-        Errors {
+    pub fn new(alloc: Global) -> Stderr {
+        Stderr {
             text: RefCell::new(String::new(alloc)),
         }
     }
@@ -65,7 +66,7 @@ fn run_line(
     output: impl Write + Drop,
 ) -> Result<(ExitCode, String), Fail> {
     let words = words_of(rt.alloc(), line)?;
-    let errors = (Errors::new(rt.alloc()), rt.alloc());
+    let errors = (Stderr::new(rt.alloc()), rt.alloc());
     let status = run_given(
         &errors,
         rt,
@@ -241,7 +242,7 @@ fn words_that_cannot_be_had(rt: HostRuntime) -> Result<(), Fail> {
         ),
         (ErrorKind::OutOfMemory, 4, "out of memory\n"),
     ] {
-        let errors = Errors::new(rt.alloc());
+        let errors = Stderr::new(rt.alloc());
         let ended = no_words_status(&errors, &io::Error::from(kind));
         let stated = errors.take(rt.alloc())?;
         assert_eq!(&rt; stated.as_str(), text);

@@ -1,14 +1,14 @@
 //! Verifications of folders in memory, and what a terminal shows of them.
 use super::fixtures::{knvk_wdl_with, kqvk_wdl_lone_word};
-use super::program::Errors;
+use super::program::Stderr;
 use std::alloc::Global;
 use std::cell::Cell;
 use std::io;
 use std::process::Abort;
 use std::test::Fail;
 use std::time::{Clock, Duration};
-use szg_commands::{ProgressLine, ReadLine};
 use szg_files::{MemoryFile, MemoryFiles, ReadWatcher};
+use szg_runs::{ProgressLine, ReadLine};
 use szg_values::Material;
 use szg_verified::{Progress, verify_folder};
 use szg_verify::Watcher;
@@ -54,7 +54,7 @@ fn check_folder(
     let mut asked = Vec::new(rt.alloc());
     asked.push(material(rt, name))?;
     let mut system = MemoryFiles { files, failures: 0 };
-    let errors = Errors::new(rt.alloc());
+    let errors = Stderr::new(rt.alloc());
     let clock = new_clock();
     let mut output = Vec::new(rt.alloc());
     let found = verify_folder(
@@ -109,7 +109,7 @@ fn what_a_folder_lacks(rt: HostRuntime) -> Result<(), Fail> {
 
 #[test]
 fn progress_on_a_terminal(rt: HostRuntime) -> Result<(), Fail> {
-    let errors = Errors::new(rt.alloc());
+    let errors = Stderr::new(rt.alloc());
     let clock = new_clock();
     let mut line = ProgressLine::new(&errors, &clock, true);
     let queen = material(&rt, "KQvK");
@@ -133,7 +133,7 @@ fn reads_on_a_terminal(rt: HostRuntime) -> Result<(), Fail> {
         ),
         (false, ""),
     ] {
-        let errors = Errors::new(rt.alloc());
+        let errors = Stderr::new(rt.alloc());
         let clock = new_clock();
         let line = ReadLine::new(&errors, &clock, is_terminal);
         line.see_open();

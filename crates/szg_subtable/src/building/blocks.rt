@@ -10,7 +10,7 @@ use szg_code::{Code, word};
 use szg_pairs::Dict;
 
 /// The greatest number of values of a block.
-const MAX_VALUES: u32 = 65_536;
+pub(crate) const MAX_VALUES: u32 = 65_536;
 
 /// The blocks that are full, and the block that is being filled.
 #[derive(Drop)]

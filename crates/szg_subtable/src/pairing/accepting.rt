@@ -1,7 +1,6 @@
 //! Tests of a proposed dictionary and text. They assume nothing about how the two were made.
-ghost use Rattle.std.specs.Prelude.{ℕ, ◌≡◌, ◌+◌, ◌<◌, ◌≤◌, ◌⊎◌, true, false, List, length, slice_get, slice_index_or, Some, IfOk, IfSome};
+ghost use Rattle.std.specs.Prelude.{ℕ, ◌≡◌, ◌+◌, ◌<◌, ◌≤◌, ◌⊎◌, true, false, length, slice_index_or, IfOk, IfSome};
 ghost use Rattle.std.specs.List.{AllByRecursion};
-ghost use Rattle.szg_pairs.specs.Entry.{is_leaf};
 ghost use Rattle.szg_pairs.specs.Expansion.{expansion_of};
 ghost use Rattle.szg_subtable.specs.Building.{AreLens, IsRound, IsSymbolAt};
 ghost use Rattle.szg_subtable.specs.Pairing.{IsUsed, pairs_in, values_of};
@@ -72,19 +71,6 @@ fn mark_half(marks: &mut [bool], half: u16, pair: usize)
     }
 }
 
-/// Returns whether each pair is marked.
-fn are_marked(entries: &[[u8; 3]], marks: &[bool]) -> bool
-    requires { length marks.now ≡ length entries.now }
-    ensures { result ≡ true → (s : ℕ) (entry : List ℕ) → slice_get entries.now s ≡ Some entry → is_leaf entry ≡ false → slice_index_or marks.now s false ≡ true }
-{
-    for (symbol, entry) in entries.iter().enumerate() {
-        if !is_leaf(*entry) && !marks[symbol] {
-            return false;
-        }
-    }
-    true
-}
-
 /// Returns whether each symbol of the text is in the dictionary, and each pair occurs in the text or in another pair.
 fn are_used(alloc: Global, entries: &[[u8; 3]], symbols: &[u16]) -> Result<bool, AllocError>
     ensures below { IfOk result (λ used. used ≡ true → AllByRecursion (λ s. s < length entries.now) symbols.now) }
@@ -105,7 +91,12 @@ fn are_used(alloc: Global, entries: &[[u8; 3]], symbols: &[u16]) -> Result<bool,
             mark_half(marks, right(*entry), pair);
         }
     }
-    Ok(are_marked(entries, marks))
+    for (place, entry) in entries.iter().enumerate() {
+        if !is_leaf(*entry) && !marks[place] {
+            return Ok(false);
+        }
+    }
+    Ok(true)
 }
 
 /// Returns the number of pairs in a dictionary.

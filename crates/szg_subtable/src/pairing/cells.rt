@@ -2,6 +2,7 @@
 //! cells of the pair's two symbols, so no other symbol moves. After `close_up` each symbol has one cell again.
 ghost use Rattle.std.specs.Prelude.{◌≤◌};
 
+use crate::pairing::numbering::at;
 use crate::pairing::{MAX_VALUES, Pair};
 
 /// The bit that is set, beside the symbol's own bits, in the last cell of a symbol of two or more cells. All symbols
@@ -30,44 +31,20 @@ pub(crate) fn length_in(lens: &[u16], symbol: u16) -> usize
     ensures some { 1 ≤ result }
     ensures most { result ≤ 65535 }
 {
-    let symbol = usize::from(symbol);
-    if symbol < lens.len() && lens[symbol] > 0 {
-        usize::from(lens[symbol])
-    } else {
-        1
-    }
+    usize::from(at(lens, symbol).max(1))
 }
 
-/// Returns whether the run of `symbol` that ends just before offset `end` has an even number of symbols. Each has
-/// `length` cells.
-pub(crate) fn is_even_before(cells: &[u16], end: usize, symbol: u16, length: usize) -> bool
-    requires { 1 ≤ length }
-{
-    let mut offset = end;
-    let mut is_even = true;
-    for _ in 0..end {
-        if offset < length || offset > cells.len() || cells[offset - 1] % LAST != symbol {
-            return is_even;
-        }
-        is_even = !is_even;
-        offset -= length;
-    }
-    is_even
-}
-
-/// Returns whether the run of `symbol` that begins at offset `start` has an even number of symbols. Each has `length`
-/// cells.
-pub(crate) fn is_even_from(cells: &[u16], start: usize, symbol: u16, length: usize) -> bool
-    requires { length ≤ 65535 }
-{
+/// Returns whether a run of `symbol` has an even number of symbols. The first cell of its first symbol, or the last
+/// cell of its last one, is at `start`. That cell of the run's next symbol is `step` cells later, modulo 2^64.
+pub(crate) fn is_even_run(cells: &[u16], start: usize, symbol: u16, step: usize) -> bool {
     let mut offset = start;
     let mut is_even = true;
     for _ in 0..cells.len() {
-        if offset >= cells.len() || cells[offset] != symbol {
-            return is_even;
+        if offset >= cells.len() || cells[offset] % LAST != symbol {
+            break;
         }
         is_even = !is_even;
-        offset += length;
+        offset = offset.wrapping_add(step);
     }
     is_even
 }
@@ -97,20 +74,20 @@ impl Cells {
             }
             let left = count - read;
             let symbol = cells[read];
-            if read % STEP < 2 && left > STEP {
-                let end = read + STEP;
-                if are_all(&cells[read + 1..end + 1], symbol) {
-                    let is_pair = symbol == pair.left && symbol == pair.right;
-                    let (due, more) = if is_pair {
-                        (new, STEP / 2)
-                    } else {
-                        (symbol, STEP)
-                    };
-                    cells[write..write + more].fill(due);
-                    write += more;
-                    read = end;
-                    continue;
-                }
+            if read % STEP < 2
+                && left > STEP
+                && are_all(&cells[read + 1..read + STEP + 1], symbol)
+            {
+                let is_pair = symbol == pair.left && symbol == pair.right;
+                let (due, more) = if is_pair {
+                    (new, STEP / 2)
+                } else {
+                    (symbol, STEP)
+                };
+                cells[write..write + more].fill(due);
+                write += more;
+                read += STEP;
+                continue;
             }
             if symbol == pair.left && left > 1 && cells[read + 1] == pair.right {
                 cells[write] = new;

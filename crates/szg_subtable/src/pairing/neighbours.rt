@@ -2,36 +2,21 @@
 //! pairs with the new symbol go.
 //!
 //! Only the safety of this code is proved.
+use crate::pairing::Pair;
 use std::alloc::{AllocError, Global};
+use std::mem;
 
 /// For each symbol, how often it is on this side of the new symbol.
 #[derive(Drop)]
 pub(crate) struct Neighbours {
-    pub sizes: Vec<u32>,
+    sizes: Vec<u32>,
     /// The first `seen` items are the symbols that are on this side at least once: those whose number in `sizes` is not
     /// 0.
-    pub symbols: Vec<u16>,
+    symbols: Vec<u16>,
     pub seen: usize,
     /// For each symbol, where in the lists the next offset of its pair with the new symbol goes. `usize::MAX` if the
     /// pair has no list.
     pub ends: Vec<usize>,
-}
-
-/// Counts a symbol. If it was not counted before, stores it in `symbols` after the first `seen` ones and returns
-/// `seen + 1`; otherwise returns `seen`.
-#[inline(always)]
-pub(crate) fn count(sizes: &mut [u32], symbols: &mut [u16], seen: usize, symbol: u16) -> usize {
-    let place = usize::from(symbol);
-    if place >= sizes.len() {
-        return seen;
-    }
-    let size = sizes[place];
-    sizes[place] = size.wrapping_add(1);
-    if size == 0 && seen < symbols.len() {
-        symbols[seen] = symbol;
-        return seen + 1;
-    }
-    seen
 }
 
 /// Appends an offset to the list of the symbol's pair with the new symbol, if the pair has one.
@@ -58,27 +43,35 @@ impl Neighbours {
         })
     }
 
-    /// Takes one of the symbols seen and returns it with its size, which becomes 0. None if no symbol is left.
-    pub(crate) fn take(&mut self) -> Option<(u16, u32)> {
-        if self.seen == 0 || self.seen > self.symbols.len() {
-            return None;
+    /// Counts the left symbols of `sides`, or the right ones. All sizes are 0 before.
+    pub(crate) fn count(&mut self, sides: &[Pair], is_left: bool) {
+        let sizes = self.sizes.as_mut_slice();
+        let symbols = self.symbols.as_mut_slice();
+        let mut seen = 0usize;
+        for side in sides {
+            let symbol = if is_left { side.left } else { side.right };
+            if let Some(size) = sizes.get_mut(usize::from(symbol)) {
+                if *size == 0 && seen < symbols.len() {
+                    symbols[seen] = symbol;
+                    seen += 1;
+                }
+                *size = size.wrapping_add(1);
+            }
         }
-        self.seen -= 1;
-        let symbol = self.symbols[self.seen];
-        let place = usize::from(symbol);
-        if place >= self.sizes.len() {
-            return Some((symbol, 0));
-        }
-        let size = self.sizes[place];
-        self.sizes[place] = 0;
-        Some((symbol, size))
+        self.seen = seen;
+    }
+
+    /// Returns the symbol at `place` of those seen with its size, which becomes 0.
+    pub(crate) fn take(&mut self, place: usize) -> (u16, u32) {
+        let symbol = self.symbols.get(place).copied().unwrap_or(0);
+        let size = self.sizes.get_mut(usize::from(symbol));
+        (symbol, size.map_or(0, mem::take))
     }
 
     /// Sets where the offsets of the symbol's pair with the new symbol go; None if the pair has no list.
     pub(crate) fn begin(&mut self, symbol: u16, end: Option<usize>) {
-        let symbol = usize::from(symbol);
-        if symbol < self.ends.len() {
-            self.ends[symbol] = end.unwrap_or(usize::MAX);
+        if let Some(next) = self.ends.get_mut(usize::from(symbol)) {
+            *next = end.unwrap_or(usize::MAX);
         }
     }
 }

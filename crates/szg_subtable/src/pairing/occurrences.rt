@@ -4,8 +4,8 @@
 //! Only the safety of this code is proved: it only proposes which pairs to make, and the proposal is tested.
 ghost use Rattle.std.specs.Prelude.{◌≤◌, length};
 
-use crate::pairing::cells::{Cells, INSIDE, LAST, is_even_before, is_even_from, length_in};
-use crate::pairing::neighbours::{Neighbours, count, put};
+use crate::pairing::cells::{Cells, INSIDE, LAST, is_even_run, length_in};
+use crate::pairing::neighbours::{Neighbours, put};
 use crate::pairing::tally::PairTally;
 use crate::pairing::{LEAST_COUNT, Pair};
 use std::alloc::{AllocError, Global};
@@ -22,18 +22,10 @@ const FREE: u16 = u16::MAX;
 pub(crate) struct Candidate {
     /// The pair's count when it was last looked up. Since then it can only have fallen.
     count: u32,
-    left: Reverse<u16>,
-    right: Reverse<u16>,
-    /// Where the pair's offsets begin in the lists.
+    pub pair: Reverse<Pair>,
+    /// Where the pair's offsets are in the lists.
     begin: usize,
-    size: u32,
-}
-
-impl Candidate {
-    /// Returns the pair.
-    pub(crate) fn pair(self) -> Pair {
-        Pair::of(self.left.0, self.right.0)
-    }
+    end: usize,
 }
 
 /// What was found while a pair was replaced by a new symbol.
@@ -45,15 +37,13 @@ struct Joined {
     adjacent: u32,
     /// How often the new symbol makes a pair with itself, without overlap.
     doubled: u32,
-    /// Whether the last new symbol is the right one of such a pair.
-    odd: bool,
     /// By how much the counts of (left, left) and of (right, right) fell.
     less_left: u32,
     less_right: u32,
 }
 
 /// Replaces a pair by the symbol `new` at each offset of `list` where it still is. The offsets where it was replaced
-/// become the first ones of the list, and `all_sides` begins with the symbols left and right of these occurrences (`FREE`
+/// become the first ones of the list, and `all_sides` begins with the symbols left and right of the new symbols (`FREE`
 /// if there is none).
 ///
 /// A run of n equal symbols has n / 2 pairs, rounded down. So the count of (left, left) falls by one if the run of left
@@ -72,6 +62,7 @@ fn join_all(
     let right = length_in(&text.lens, pair.right);
     let is_mixed = pair.left != pair.right;
     let mut joined = Joined::default();
+    let mut is_doubled = false;
     for place in 0..list.len() {
         let offset = list[place];
         let at = offset as usize;
@@ -79,10 +70,11 @@ fn join_all(
         if end <= cells.len() && cells[at] == pair.left && cells[middle] == pair.right {
             let before = if at > 0 { cells[at - 1] % LAST } else { FREE };
             let after = if end < cells.len() { cells[end] } else { FREE };
-            if is_mixed && before == pair.left && is_even_before(cells, middle, pair.left, left) {
+            let back = left.wrapping_neg();
+            if is_mixed && before == pair.left && is_even_run(cells, middle - 1, before, back) {
                 joined.less_left = joined.less_left.wrapping_add(1);
             }
-            if is_mixed && after == pair.right && is_even_from(cells, middle, pair.right, right) {
+            if is_mixed && after == pair.right && is_even_run(cells, middle, after, right) {
                 joined.less_right = joined.less_right.wrapping_add(1);
             }
             cells[middle] = INSIDE;
@@ -91,6 +83,12 @@ fn join_all(
             if joined.made < list.len() && joined.made < all_sides.len() {
                 list[joined.made] = offset;
                 all_sides[joined.made] = Pair::of(before, after);
+                is_doubled = before == new && !is_doubled;
+                if before == new && joined.made > 0 {
+                    all_sides[joined.made - 1].right = new;
+                    joined.adjacent = joined.adjacent.wrapping_add(1);
+                    joined.doubled = joined.doubled.wrapping_add(u32::from(is_doubled));
+                }
                 joined.made += 1;
             }
         }
@@ -163,14 +161,14 @@ impl Occurrences {
             return Ok(None);
         }
         let begin = self.lists.len();
-        self.lists.resize(begin.saturating_add(size as usize), 0)?;
+        let end = begin.saturating_add(size as usize);
+        self.lists.resize(end, 0)?;
         self.counts.insert(pair, count)?;
         self.queue.push(Candidate {
             count,
-            left: Reverse(pair.left),
-            right: Reverse(pair.right),
+            pair: Reverse(pair),
             begin,
-            size,
+            end,
         })?;
         Ok(Some(begin))
     }
@@ -189,7 +187,7 @@ impl Occurrences {
             let Some(candidate) = self.queue.pop() else {
                 return Ok(None);
             };
-            let count = self.counts.get(&candidate.pair()).copied().unwrap_or(0);
+            let count = self.counts.get(&candidate.pair.0).copied().unwrap_or(0);
             if count == candidate.count {
                 return Ok(Some(candidate));
             }
@@ -207,123 +205,84 @@ impl Occurrences {
         picked: Candidate,
         new: u16,
     ) -> Result<usize, AllocError> {
-        let pair = picked.pair();
+        let pair = picked.pair.0;
         let listed = self.lists.len();
-        let size = picked.size as usize;
-        let end = picked.begin.saturating_add(size).min(listed);
+        let end = picked.end.min(listed);
         let begin = picked.begin.min(end);
         let list = &mut self.lists[begin..end];
         if self.sides.len() < list.len() {
             self.sides.resize(list.len(), Pair::of(FREE, FREE))?;
         }
-        let mut joined = join_all(list, &mut self.sides, text, pair, new);
-        self.count_sides(new, &mut joined);
+        let joined = join_all(list, &mut self.sides, text, pair, new);
+        let sides = &self.sides[..joined.made.min(self.sides.len())];
+        self.before.count(sides, true);
+        self.following.count(sides, false);
         self.lower(Pair::of(pair.left, pair.left), joined.less_left);
         self.lower(Pair::of(pair.right, pair.right), joined.less_right);
+        self.lower(Pair::of(pair.right, pair.left), joined.adjacent);
         self.lower(pair, u32::MAX);
-        self.list_side(text, pair, joined, new, true)?;
-        self.list_side(text, pair, joined, new, false)?;
+        self.list_sides(text, pair, new)?;
         let own = self.add(text, Pair::of(new, new), joined.doubled, joined.adjacent)?;
         self.following.begin(new, own);
         if self.lists.len() > listed {
             let last = begin.saturating_add(joined.made).min(end);
-            self.fill_neighbours(text, begin, last, new);
+            self.fill_neighbours(text, begin, last);
         }
         Ok(joined.made)
     }
 
-    /// Counts the symbols before and after the occurrences of the symbol `new`, and how often `new` follows itself.
-    fn count_sides(&mut self, new: u16, joined: &mut Joined) {
-        let sizes_before = self.before.sizes.as_mut_slice();
-        let symbols_before = self.before.symbols.as_mut_slice();
-        let sizes_following = self.following.sizes.as_mut_slice();
-        let symbols_following = self.following.symbols.as_mut_slice();
-        let (mut seen_before, mut seen_following) = (0, 0);
-        let made = joined.made.min(self.sides.len());
-        for sides in &self.sides[..made] {
-            seen_before = count(sizes_before, symbols_before, seen_before, sides.left);
-            seen_following = count(
-                sizes_following,
-                symbols_following,
-                seen_following,
-                sides.right,
-            );
-            let is_adjacent = sides.left == new;
-            joined.odd = is_adjacent && !joined.odd;
-            joined.adjacent = joined.adjacent.wrapping_add(u32::from(is_adjacent));
-            joined.doubled = joined.doubled.wrapping_add(u32::from(joined.odd));
+    /// For each symbol before the new one, and for each one after it: lowers the count of its pair with the symbol that
+    /// became part of the new one, and adds its pair with the new symbol.
+    fn list_sides(&mut self, text: &Cells, picked: Pair, new: u16) -> Result<(), AllocError> {
+        for place in 0..self.before.seen {
+            let (symbol, size) = self.before.take(place);
+            let old = Pair::of(symbol, picked.left);
+            let begin = self.exchange(text, old, Pair::of(symbol, new), size)?;
+            self.before.begin(symbol, begin);
         }
-        self.before.seen = seen_before;
-        self.following.seen = seen_following;
-    }
-
-    /// For each symbol before the new one, or after it: lowers the count of its pair with the symbol that became part of
-    /// the new one, and adds its pair with the new symbol, but not the new symbol's pair with itself.
-    fn list_side(
-        &mut self,
-        text: &Cells,
-        picked: Pair,
-        joined: Joined,
-        new: u16,
-        is_before: bool,
-    ) -> Result<(), AllocError> {
-        for _ in 0..u64::MAX {
-            let next = if is_before {
-                self.before.take()
-            } else {
-                self.following.take()
-            };
-            let Some((symbol, size)) = next else {
-                break;
-            };
-            let (old, found) = if is_before {
-                (Pair::of(symbol, picked.left), Pair::of(symbol, new))
-            } else {
-                (Pair::of(picked.right, symbol), Pair::of(new, symbol))
-            };
-            if old.left != old.right && symbol != new {
-                self.lower(old, size);
-            }
-            // where a new symbol directly follows a new one, the left symbol of the later occurrence was counted as the
-            // symbol after the earlier one
-            let is_adjacent = !is_before && symbol == picked.left;
-            let became_new = if is_adjacent { joined.adjacent } else { 0 };
-            let count = if symbol == new {
-                0
-            } else {
-                size.saturating_sub(became_new)
-            };
-            let begin = self.add(text, found, count, count)?;
-            if is_before {
-                self.before.begin(symbol, begin);
-            } else {
-                self.following.begin(symbol, begin);
-            }
+        for place in 0..self.following.seen {
+            let (symbol, size) = self.following.take(place);
+            let old = Pair::of(picked.right, symbol);
+            let begin = self.exchange(text, old, Pair::of(new, symbol), size)?;
+            self.following.begin(symbol, begin);
         }
         Ok(())
     }
 
+    /// Lowers the count of `old` by `count`, and adds the pair `new`, which occurs `count` times in its place. A pair of
+    /// equal symbols is neither lowered nor added.
+    fn exchange(
+        &mut self,
+        text: &Cells,
+        old: Pair,
+        new: Pair,
+        count: u32,
+    ) -> Result<Option<usize>, AllocError> {
+        if new.left == new.right {
+            return Ok(None);
+        }
+        if old.left != old.right {
+            self.lower(old, count);
+        }
+        self.add(text, new, count, count)
+    }
+
     /// Lists the offsets of the pairs that contain the new symbol. This symbol was made at the offsets `begin..end` of
     /// the lists.
-    fn fill_neighbours(&mut self, text: &Cells, begin: usize, end: usize, new: u16)
+    fn fill_neighbours(&mut self, text: &Cells, begin: usize, end: usize)
         requires { end ≤ length self.old.lists.items }
     {
         let lens = text.lens.as_slice();
-        let length = length_in(lens, new) as u32;
         let lists = self.lists.as_mut_slice();
         let all_sides = self.sides.as_slice();
         let ends_before = self.before.ends.as_mut_slice();
         let ends_following = self.following.ends.as_mut_slice();
         for made in 0..all_sides.len().min(end.saturating_sub(begin)) {
-            let place = begin + made;
-            let offset = lists[place];
+            let offset = lists[begin + made];
             let sides = all_sides[made];
             let back = length_in(lens, sides.left) as u32;
             put(ends_before, lists, sides.left, offset.saturating_sub(back));
-            // if the pair also occurred directly after this one, a new symbol follows there now
-            let is_new = place + 1 < end && lists[place + 1] == offset.saturating_add(length);
-            let after = if is_new { new } else { sides.right };
-            put(ends_following, lists, after, offset);
+            put(ends_following, lists, sides.right, offset);
         }
     }
 }

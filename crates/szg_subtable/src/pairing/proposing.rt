@@ -70,12 +70,8 @@ impl Making {
         let rounds = u64::from(self.rounds.saturating_sub(self.done));
         let pairs = rounds.saturating_mul(self.more.saturating_mul(LISTED_PAIRS));
         let percent = self.more.saturating_mul(LISTED_PERCENT);
-        tally.least_count(
-            &self.text,
-            most,
-            pairs,
-            symbols.saturating_mul(percent) / 100,
-        )
+        let times = symbols.saturating_mul(percent) / 100;
+        tally.least_count(&self.text, most, pairs, times)
     }
 
     /// Counts all pairs. If the most frequent one is frequent enough (`DENSE_PART`), makes this pair in one pass over
@@ -90,18 +86,18 @@ impl Making {
         }
         watcher.round(self.done, self.rounds);
         let tally = PairTally::new(alloc, &self.text)?;
-        let Some(best) = tally.most_frequent(&self.text) else {
+        let Some((pair, count)) = tally.most_frequent(&self.text) else {
             return Ok(false);
         };
         let pairs = (self.entries.len() as u64).saturating_pow(2);
         let pass = (self.text.cells.len() as u64).saturating_add(pairs);
-        if u64::from(best.count) < pass / DENSE_PART {
-            return self.make_listed(alloc, tally, best.count, watcher);
+        if u64::from(count) < pass / DENSE_PART {
+            return self.make_listed(alloc, tally, count, watcher);
         }
-        let Some(new) = self.add(best.pair)? else {
+        let Some(new) = self.add(pair)? else {
             return Ok(false);
         };
-        self.text.join(best.pair, new);
+        self.text.join(pair, new);
         Ok(true)
     }
 
@@ -129,7 +125,7 @@ impl Making {
                 self.more = self.more.saturating_mul(2);
                 break;
             };
-            let Some(new) = self.add(picked.pair())? else {
+            let Some(new) = self.add(picked.pair.0)? else {
                 is_more = false;
                 break;
             };

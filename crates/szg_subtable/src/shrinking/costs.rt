@@ -39,16 +39,15 @@ pub(crate) struct Totals {
 /// exceed it because no word is shorter than one bit. `counts` may leave out symbols that occur equally often in two
 /// texts whose estimates are compared: they would change both estimates by the same number.
 fn bits_of(totals: Totals, counts: &[u64]) -> u64 {
-    let Totals { symbols, most } = totals;
-    let log = log2(symbols);
-    let mut bits = symbols.wrapping_mul(log);
+    let log = log2(totals.symbols);
+    let mut bits = totals.symbols.wrapping_mul(log);
     for count in counts {
         bits = bits.wrapping_sub(count.wrapping_mul(log2(*count)));
     }
     // only a symbol that is more than half of the text has less than one bit of entropy
-    if most > symbols / 2 {
-        let excess = BIT.wrapping_add(log2(most)).wrapping_sub(log);
-        bits = bits.wrapping_add(most.wrapping_mul(excess));
+    if totals.most > totals.symbols / 2 {
+        let excess = BIT.wrapping_add(log2(totals.most)).wrapping_sub(log);
+        bits = bits.wrapping_add(totals.most.wrapping_mul(excess));
     }
     bits
 }

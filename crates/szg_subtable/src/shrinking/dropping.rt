@@ -2,81 +2,47 @@
 //!
 //! Only the safety of this code is proved: its result is a proposal, and proposals are tested.
 use crate::pairing::leaves::{MAX_SYMBOLS, Paired};
-use crate::pairing::numbering::{at, counts_of, renamed};
+use crate::pairing::numbering::{Renumbered, at, counts_of, reordered};
 use crate::shrinking::costs::{Totals, saved};
 use std::alloc::{AllocError, Global};
 use szg_pairs::entry::{is_leaf, left, right};
 
-/// The kept symbols of a dictionary, numbered anew in their order.
-#[derive(Drop)]
-pub(crate) struct Kept {
-    pub entries: Vec<[u8; 3]>,
-    pub lens: Vec<u16>,
-    /// How often each kept symbol occurs in a text.
-    pub counts: Vec<u64>,
-    /// For each symbol of the old dictionary the number of kept symbols before it: its new number, if it is kept itself.
-    pub numbers: Vec<u16>,
-}
-
 /// Raises the counts of a pair's left and right symbol by `count`.
 fn raise_halves(counts: &mut [u64], entry: [u8; 3], count: u64) {
     for half in [left(entry), right(entry)] {
-        let place = usize::from(half);
-        if place < counts.len() {
-            let raised = counts[place].saturating_add(count);
-            counts[place] = raised;
+        if let Some(raised) = counts.get_mut(usize::from(half)) {
+            *raised = raised.saturating_add(count);
         }
     }
-}
-
-/// Returns the symbols that are kept. `counts` has the count of each symbol.
-fn kept_of(
-    alloc: Global,
-    dictionary: &Paired,
-    counts: &[u64],
-    are_kept: &[bool],
-) -> Result<Kept, AllocError> {
-    let mut kept = Kept {
-        entries: Vec::new(alloc),
-        lens: Vec::new(alloc),
-        counts: Vec::new(alloc),
-        numbers: Vec::new(alloc),
-    };
-    for (place, (entry, is_kept)) in dictionary.entries.iter().zip(are_kept).enumerate() {
-        let symbol = place.min(MAX_SYMBOLS) as u16;
-        kept.numbers
-            .push(kept.entries.len().min(MAX_SYMBOLS) as u16)?;
-        if *is_kept {
-            kept.entries.push(renamed(*entry, &kept.numbers))?;
-            kept.lens.push(at(&dictionary.lens, symbol))?;
-            kept.counts.push(at(counts, symbol))?;
-        }
-    }
-    Ok(kept)
 }
 
 /// Of the pairs that are no half of a kept pair, drops those that do not occur and those for which `saved` returns at
 /// most `least`. The counts are then those of a text in which each dropped pair is written as its halves.
-pub(crate) fn without_poor(alloc: Global, paired: &Paired, least: u64) -> Result<Kept, AllocError> {
+pub(crate) fn without_poor(
+    alloc: Global,
+    paired: &Paired,
+    least: u64,
+) -> Result<Renumbered, AllocError> {
     let entries = &paired.entries;
     let mut counts = counts_of(alloc, entries.len(), &paired.symbols)?;
     let mut totals = Totals {
         symbols: paired.symbols.len() as u64,
-        most: counts.iter().fold(0u64, |most, count| most.max(*count)),
+        most: counts.iter().copied().max().unwrap_or(0),
     };
     // how often each symbol is a half of a kept pair: all pairs with it come after it
     let mut uses = vec![in alloc; 0u64; entries.len()]?;
-    let mut are_kept = vec![in alloc; true; entries.len()]?;
-    for later in 0..entries.len() {
-        let place = entries.len() - 1 - later;
+    let mut kept = Vec::new(alloc);
+    for place in (0..entries.len()).rev() {
         let entry = entries[place];
+        let symbol = place.min(MAX_SYMBOLS) as u16;
         if is_leaf(entry) {
+            kept.push(symbol)?;
             continue;
         }
-        let symbol = place.min(MAX_SYMBOLS) as u16;
         let count = at(&counts, symbol);
         if at(&uses, symbol) > 0 || saved(&counts, entry, count, totals) > least {
             raise_halves(&mut uses, entry, 1);
+            kept.push(symbol)?;
             continue;
         }
         raise_halves(&mut counts, entry, count);
@@ -85,11 +51,9 @@ pub(crate) fn without_poor(alloc: Global, paired: &Paired, least: u64) -> Result
             .most
             .max(at(&counts, left(entry)))
             .max(at(&counts, right(entry)));
-        if place < are_kept.len() {
-            are_kept[place] = false;
-        }
     }
-    kept_of(alloc, paired, &counts, &are_kept)
+    kept.reverse();
+    reordered(alloc, paired, &counts, &kept)
 }
 
 /// Drops one pair. The counts are then those of a text in which it is written as its halves. None if `symbol` is a
@@ -98,7 +62,7 @@ pub(crate) fn without_one(
     alloc: Global,
     paired: &Paired,
     symbol: u16,
-) -> Result<Option<Kept>, AllocError> {
+) -> Result<Option<Renumbered>, AllocError> {
     let place = usize::from(symbol);
     let entries = &paired.entries;
     let is_half = entries.iter().any(|entry| {
@@ -110,7 +74,7 @@ pub(crate) fn without_one(
     let mut counts = counts_of(alloc, entries.len(), &paired.symbols)?;
     let count = at(&counts, symbol);
     raise_halves(&mut counts, entries[place], count);
-    let mut are_kept = vec![in alloc; true; entries.len()]?;
-    are_kept[place] = false;
-    Ok(Some(kept_of(alloc, paired, &counts, &are_kept)?))
+    let symbols = 0..entries.len().min(MAX_SYMBOLS) as u16;
+    let kept: Vec<u16> = symbols.filter(|kept| *kept != symbol).collect(alloc)?;
+    Ok(Some(reordered(alloc, paired, &counts, &kept)?))
 }

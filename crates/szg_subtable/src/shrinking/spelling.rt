@@ -4,9 +4,9 @@
 //! Only the safety of this code is proved: a spelling is only a proposal, and proposals are tested.
 ghost use Rattle.std.specs.Prelude.{◌≡◌, ◌<◌, ◌≤◌, length, true};
 
-use crate::pairing::cells::are_all;
+use crate::pairing::cells::{are_all, length_in};
 use crate::pairing::leaves::MAX_SYMBOLS;
-use crate::pairing::numbering::at;
+use crate::pairing::numbering::Renumbered;
 use std::alloc::{AllocError, Global};
 use szg_pairs::entry::{is_leaf, left, right};
 
@@ -72,10 +72,9 @@ impl Tree {
     fn child(&self, first: u32, leaf: u16) -> usize {
         let mut next = first as usize;
         for _ in 0..self.nodes.len() {
-            if next >= self.nodes.len() {
+            let Some(node) = self.nodes.get(next) else {
                 break;
-            }
-            let node = self.nodes[next];
+            };
             if node.leaf == leaf {
                 return next;
             }
@@ -103,10 +102,7 @@ impl Tree {
             sibling: node.child,
             ..BARE
         })?;
-        self.nodes[parent] = Node {
-            child: new.min(NO_NODE as usize) as u32,
-            ..node
-        };
+        self.nodes[parent].child = new.min(NO_NODE as usize) as u32;
         Ok(new)
     }
 
@@ -126,27 +122,20 @@ impl Tree {
             let Some(next) = waiting.pop() else {
                 break;
             };
-            let place = usize::from(next);
-            if place >= entries.len() {
+            let Some(entry) = entries.get(usize::from(next)) else {
                 continue;
-            }
-            let entry = entries[place];
-            if is_leaf(entry) {
+            };
+            if is_leaf(*entry) {
                 end = Some(self.child_or_new(end, next)?);
             } else {
-                waiting.push(right(entry))?;
-                waiting.push(left(entry))?;
+                waiting.push(right(*entry))?;
+                waiting.push(left(*entry))?;
             }
         }
-        let place = end.unwrap_or(NO_NODE as usize);
-        if place < self.nodes.len() {
-            let node = self.nodes[place];
+        if let Some(node) = self.nodes.get_mut(end.unwrap_or(NO_NODE as usize)) {
             if cost < node.cost {
-                self.nodes[place] = Node {
-                    symbol,
-                    cost,
-                    ..node
-                };
+                node.symbol = symbol;
+                node.cost = cost;
             }
         }
         Ok(())
@@ -154,32 +143,25 @@ impl Tree {
 }
 
 /// The cheapest spelling from an index on: its first symbol, its cost, and how many nodes are on the path searched.
-#[derive(Clone, Copy)]
+#[derive(Clone, Copy, Default)]
 struct Cheapest {
     symbol: u16,
     cost: u64,
     steps: u64,
 }
 
-/// What is known before a spelling is found.
-const NOTHING_FOUND: Cheapest = Cheapest {
-    symbol: 0,
-    cost: NO_COST,
-    steps: 0,
-};
-
 /// Returns the cheapest spelling of the leaves from index `place` on. `kept` has the costs of the cheapest spellings
 /// from later indexes on: for index n at `n % KEPT`.
 fn cheapest_from(tree: &Tree, leaves: &[u16], place: usize, kept: &[u64; KEPT]) -> Cheapest
     requires { place < length leaves.now }
 {
-    let mut best = NOTHING_FOUND;
+    let mut best = Cheapest::default();
+    best.cost = NO_COST;
     let mut next = usize::from(leaves[place]);
     for end in place.saturating_add(1)..leaves.len().saturating_add(1) {
-        if next >= tree.nodes.len() {
+        let Some(node) = tree.nodes.get(next) else {
             break;
-        }
-        let node = tree.nodes[next];
+        };
         best.steps = best.steps.saturating_add(1);
         if node.cost != NO_COST {
             let cost = node.cost.saturating_add(kept[end % KEPT]);
@@ -207,7 +189,7 @@ pub(crate) struct Spelling {
 }
 
 /// What is known at an index of the leaves, while the indexes are walked from the last to the first.
-#[derive(Clone, Copy)]
+#[derive(Clone, Copy, Default)]
 struct SpellingWalk {
     /// The costs of the cheapest spellings from the next `KEPT` indexes on: from index n on at `n % KEPT`.
     kept: [u64; KEPT],
@@ -286,13 +268,7 @@ fn choose(
     let mut chosen = vec![in alloc; 0u16; leaves.len()]?;
     let symbols = chosen.as_mut_slice();
     let (mut steps, mut visited) = (0u64, 0u64);
-    let mut walk = SpellingWalk {
-        kept: [0; KEPT],
-        found: NOTHING_FOUND,
-        equal: 0,
-        rise: 0,
-        same: 0,
-    };
+    let mut walk = SpellingWalk::default();
     let mut place = leaves.len();
     while place > 0 {
         if walk.repeat(leaves, symbols, place) {
@@ -314,30 +290,28 @@ fn choose(
     }))
 }
 
-/// Spells leaves with the least total cost, where symbol s costs `costs[s]` and has `lens[s]` values. First the best
-/// symbol is chosen at each index, from the last to the first; then the symbols of the text are collected. None if more
-/// than `limit` nodes are visited.
+/// Spells leaves with the least total cost, where symbol s costs `costs[s]`. First the best symbol is chosen at each
+/// index, from the last to the first; then the symbols of the text are collected. None if more than `limit` nodes are
+/// visited.
 pub(crate) fn spell(
     alloc: Global,
     leaves: &[u16],
-    entries: &[[u8; 3]],
-    lens: &[u16],
+    dictionary: &Renumbered,
     costs: &[u64],
     limit: u64,
 ) -> Result<Option<Spelling>, AllocError> {
-    let tree = Tree::new(alloc, entries, costs)?;
+    let tree = Tree::new(alloc, &dictionary.entries, costs)?;
     let Some(mut spelling) = choose(alloc, &tree, leaves, limit)? else {
         return Ok(None);
     };
     let mut symbols = Vec::new(alloc);
     let mut place = 0usize;
     for _ in 0..spelling.symbols.len() {
-        if place >= spelling.symbols.len() {
+        let Some(symbol) = spelling.symbols.get(place) else {
             break;
-        }
-        let symbol = spelling.symbols[place];
-        symbols.push(symbol)?;
-        place = place.saturating_add(usize::from(at(lens, symbol).max(1)));
+        };
+        symbols.push(*symbol)?;
+        place = place.saturating_add(length_in(&dictionary.lens, *symbol));
     }
     spelling.symbols = symbols;
     Ok(Some(spelling))

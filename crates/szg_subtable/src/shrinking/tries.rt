@@ -3,9 +3,9 @@
 //! Only the safety of this code is proved: its result is a proposal, and proposals are tested.
 use crate::building::sizing::{choose_sizes, words_for};
 use crate::pairing::leaves::Paired;
-use crate::pairing::numbering::at;
+use crate::pairing::numbering::Renumbered;
 use crate::shrinking::costs::{BIT, log2};
-use crate::shrinking::dropping::{Kept, without_poor};
+use crate::shrinking::dropping::without_poor;
 use crate::shrinking::spelling::spell;
 use std::alloc::{AllocError, Global};
 
@@ -30,10 +30,7 @@ impl Best {
     /// Returns the approximate number of bytes with the best text: those of its subtable and, if `other_bytes` is
     /// known, also the table's other bytes before the sparse indexes.
     pub(crate) fn bytes(&self) -> u64 {
-        match self.other_bytes {
-            None => self.cost,
-            Some(_) => self.cost / 64,
-        }
+        self.other_bytes.map_or(self.cost, |_| self.cost / 64)
     }
 
     /// Returns what a try costs.
@@ -59,28 +56,23 @@ impl Best {
     pub(crate) fn spelled(
         &mut self,
         alloc: Global,
-        dictionary: Kept,
+        dictionary: Renumbered,
         quarters: u64,
     ) -> Result<Option<Paired>, AllocError> {
         let costs = blended_costs(alloc, &dictionary.counts, quarters)?;
-        let (entries, lens) = (dictionary.entries, dictionary.lens);
-        let Some(text) = spell(alloc, &self.leaves, &entries, &lens, &costs, self.limit)? else {
+        let Some(text) = spell(alloc, &self.leaves, &dictionary, &costs, self.limit)? else {
             (self.budget, self.limit) = (0, 0);
             return Ok(None);
         };
         self.budget = self.budget.saturating_sub(text.steps);
         self.limit = self.limit.saturating_sub(text.visited);
         let mut spelled = Paired {
-            entries,
-            lens,
+            entries: dictionary.entries,
+            lens: dictionary.lens,
             symbols: text.symbols,
         };
         let needed = without_poor(alloc, &spelled, 0)?;
-        for symbol in spelled.symbols.iter_mut() {
-            *symbol = at(&needed.numbers, *symbol);
-        }
-        spelled.entries = needed.entries;
-        spelled.lens = needed.lens;
+        spelled.renumber(needed);
         Ok(Some(spelled))
     }
 }

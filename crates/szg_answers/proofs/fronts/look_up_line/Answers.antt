@@ -18,7 +18,7 @@ returns-in-Index-clause-stated g c =
     rw (c.in-Index.is)
     (
     ok_then c.index_line.result _ _
-    (λ line stated. unfetched g.S.File.Input c.args.file kept c.args.opened.now.read c.args.opened.now.size
+    (λ line stated. unfetched g.S.File.Input c.args.file kept c.args.opened.now.read c.args.opened.now.front.length
     (λ content t. IsLookUpAnswer (Index board) c.args.request.now.part c.args.request.now.side content t (string_bytes line)) c.requires.room
     (λ content h. spot_of_fetched x board Win h.table (c.index.ensures ∙ h.index_is) (string_bytes line) stated))
     c.index_line.ensures.stated
@@ -29,7 +29,7 @@ returns-in-Index-clause-refused g c = λ refusal is.
     let kept = c.args.opened.now.front in let x = c.index.result.now in let board = c.in-Index.placement in
     rw (c.in-Index.is)
     (
-    unfetched g.S.File.Input c.args.file kept c.args.opened.now.read c.args.opened.now.size
+    unfetched g.S.File.Input c.args.file kept c.args.opened.now.read c.args.opened.now.front.length
     (λ content t. IsLookUpRefused (Index board) c.args.request.now.part c.args.request.now.side content t refusal) c.requires.room
     (λ content h. spot_refused x board Win h.table (c.index.ensures ∙ h.index_is) refusal (c.index_line.ensures.refused refusal is))
     )

@@ -1,4 +1,4 @@
-use Rattle.std.proofs.Common.{◌≡◌, refl, rules, arith, ◌≤◌, length}
+use Rattle.std.proofs.Common.{◌≡◌, rules, arith, ◌≤◌, length}
 use Rattle.szg_answers.proofs.FrontFacts.{front_long}
 use Rattle.szg_answers.proofs.fronts.opened_front.Goals as goal
 
@@ -12,7 +12,6 @@ returns-clause-front g c =
       named = search rules;
       material_is = r.stated.0;
       kind_is = r.stated.1;
-      size_is = refl;
       bytes = r.bytes;
       taken = r.taken;
       read_is = many;

@@ -11,6 +11,6 @@ returns g c =
     let log = c.given-2.result in
     let lists : IsGiven job.lists.items sums = rw (c.deref-3.ensures.value) at c.given.ensures in
     let logs : IsGiven job.logs.items log = rw (c.deref-4.ensures.value) at c.given-2.ensures in
-    let ending = rw (c.deref-5.ensures.value, c.is_some.ensures) at c.check_by.ensures in
+    let ending = rw (c.as_slice-paths.ensures.value, c.is_some.ensures) at c.check_by.ensures in
     asked_ending g.S.FileSystem.content g.S.FileSystem.failures g.S.File.Input g.W.Output c.args.system.now c.check_by.new.system c.args.writer.now c.check_by.new.writer _ _
     (asked_of job) ((asked_of job).options sums log) (sums, log, lists, logs, refl) c.check_by.result ending

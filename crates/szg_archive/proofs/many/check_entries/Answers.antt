@@ -11,8 +11,8 @@ entries-init g c = record {
   text = [];
   reports = (refl, refl);
   given = Gives-none _ _ 0;
-  counts = record { good = refl; refused = refl; unread = refl; kept = refl; skipped = refl };
-  all = refl;
+  counts = record { good = search rules; refused = search rules; unread = search rules; kept = search rules; skipped = search rules };
+  all = omega arith;
   lists = search rules;
 }
 

@@ -18,14 +18,14 @@ needed_in-needed-requires c =
 
 pub find_verified-requires-clause-within : goal.find_verified-requires-clause-within
 find_verified-requires-clause-within c =
-    let needs = rw c.in-Pairs.is at c.needed_in-needed.ensures in
+    let needs = rw c.in-Pairs.is at c.needed_in-needed.ensures.needed in
     let held = rw c.in-Pairs.is at (held_at (layout_of c.args.sub.now) c.args.size c.args.i c.args.location.block c.args.location.item c.requires.index c.requires.below c.requires.at_block c.requires.at_item) in
     omega (arith, needs, held.inside)
 
 pub returns-in-Some-clause-verified : goal.returns-in-Some-clause-verified
 returns-in-Some-clause-verified c =
     let layout = layout_from c.in-Pairs.block_bits c.in-Pairs.span_bits c.in-Pairs.extra c.in-Pairs.blocks c.in-Pairs.code c.in-Pairs.dict c.in-Pairs.sparse.items c.in-Pairs.lengths.items in
-    let needs = rw c.in-Pairs.is at c.needed_in-needed.ensures in
+    let needs = rw c.in-Pairs.is at c.needed_in-needed.ensures.needed in
     let enough = c.in-Some.ensures.enough in
     let at = rw c.in-Pairs.is at c.requires.at_block in
     rw (c.in-Pairs.is, ← at) (needed_spelled layout c.args.size c.args.location.block c.args.block.now (omega (arith, needs, enough)))
@@ -38,6 +38,6 @@ returns-in-Some-clause-value c =
 pub returns-in-None-clause-fault : goal.returns-in-None-clause-fault
 returns-in-None-clause-fault c =
     let layout = layout_from c.in-Pairs.block_bits c.in-Pairs.span_bits c.in-Pairs.extra c.in-Pairs.blocks c.in-Pairs.code c.in-Pairs.dict c.in-Pairs.sparse.items c.in-Pairs.lengths.items in
-    let needs = rw c.in-Pairs.is at c.needed_in-needed.ensures in
+    let needs = rw c.in-Pairs.is at c.needed_in-needed.ensures.needed in
     let at = rw c.in-Pairs.is at c.requires.at_block in
     rw (c.in-Pairs.is, ← at) (refl, λ h. c.in-None.ensures.few (omega (arith, needs, spelled_needed layout c.args.size c.args.location.block c.args.block.now c.symbols.ensures.accepted h)))

@@ -17,9 +17,9 @@ returns-then-ahead-from c =
     let n = word_at-here c.args.code.now c.requires.accepted c.args.dict.now c.loop-symbol.words c.next_word_if.new.words c.in-Some.symbol c.in-Some.ensures.found c.loop-symbol.ahead inside in
     let d = pairs_above-here c.args.code.now c.requires.accepted c.args.dict.now c.loop-symbol.words c.next_word_if.new.words c.in-Some.symbol c.in-Some.ensures.found c.loop-symbol.ahead inside in
     record {
-      value = sym c.loop-symbol.invariant.same ∙ ap (λ u. slice_get u c.loop-symbol.ahead) e ∙ slice_get-append_before xs ys c.loop-symbol.ahead inside ∙ c.descend-end.ensures.value;
+      value = sym c.loop-symbol.invariant.same ∙ ap (λ u. slice_get u c.loop-symbol.ahead) e ∙ slice_get-append_before xs ys c.loop-symbol.ahead inside ∙ c.descend.ensures.value;
       words = omega (arith, n, c.loop-symbol.invariant.counted);
-      pairs = sym (c.loop-symbol.invariant.pairs ∙ d ∙ get_or_from_slice_get (depths_of c.args.dict.now c.in-Some.symbol) c.loop-symbol.ahead _ 0 c.descend-end.ensures.pairs);
+      pairs = sym (c.loop-symbol.invariant.pairs ∙ d ∙ get_or_from_slice_get (depths_of c.args.dict.now c.in-Some.symbol) c.loop-symbol.ahead _ 0 c.descend.ensures.pairs);
     }
 
 pub loop-symbol-preserved : goal.loop-symbol-preserved

@@ -51,23 +51,27 @@ returns-in_err-left-clause-none g c =
     let inv = c.loop-words.invariant in
     rw c.from_residual.ensures (few_values c.args.code.now c.args.dict.now c.loop-words.left _ c.args.index c.loop-words.ahead inv.at_most inv.few inv.spelled (c.in-Some.ensures.past c.in_err-left.ensures.past.0))
 
-pub returns-then-ahead-count-clause-value : goal.returns-then-ahead-count-clause-value
-returns-then-ahead-count-clause-value g c =
-    let taken = c.in-Some.ensures.found c.in_ok-left.ensures.within.0 in
-    let xs : List ℕ = values_of c.args.dict.now (symbols_of c.in-Some.words) in
-    let ys : List ℕ = values_spelled c.args.code.now c.args.dict.now c.step.new.words.cursor.left in
-    let e = values_spelled-taken_words c.args.code.now c.requires.accepted c.args.dict.now c.loop-words.left.cursor c.step.new.words.cursor (symbols_of c.in-Some.words) taken.1 in
-    let there : c.loop-words.ahead < length xs = omega (arith, c.count_of-count.ensures.number, c.if-ahead-count.true) in
-    sym (slice_get-append_before xs ys c.loop-words.ahead there) ∙ ap (λ u. slice_get u c.loop-words.ahead) (sym e) ∙ c.loop-words.invariant.same taken.0
-
-pub returns-then-ahead-count-clause-spelled : goal.returns-then-ahead-count-clause-spelled
-returns-then-ahead-count-clause-spelled g c =
+pub returns-then-ahead-count-clause-found : goal.returns-then-ahead-count-clause-found
+returns-then-ahead-count-clause-found g c =
+    let inv = c.loop-words.invariant in
     let within = c.in_ok-left.ensures.within in
     let taken = c.in-Some.ensures.found within.0 in
+    let xs : List ℕ = values_of c.args.dict.now (symbols_of c.in-Some.words) in
+    let e = values_spelled-taken_words c.args.code.now c.requires.accepted c.args.dict.now c.loop-words.left.cursor c.step.new.words.cursor (symbols_of c.in-Some.words) taken.1 in
     let n = length-values_spelled-taken_words c.args.code.now c.requires.accepted c.args.dict.now c.loop-words.left.cursor c.step.new.words.cursor (symbols_of c.in-Some.words) taken.1 in
     let same = ap (λ (k : Cursor). length (values_spelled c.args.code.now c.args.dict.now k.left)) within.1 in
-    let before = c.loop-words.invariant.spelled taken.0 in
-    omega (arith, n, same, c.count_of-count.ensures.number, before)
+    let before = inv.spelled taken.0 in
+    let there : c.loop-words.ahead < length xs = omega (arith, c.count_of-count.ensures.number, c.if-ahead-count.true) in
+    record {
+      there = subst (λ k. AreBelow k (symbols_of c.in-Some.words)) c.requires.symbols c.in-Some.ensures.there;
+      count = c.count_of-count.ensures.number;
+      few = c.count_of-count.ensures.few;
+      within = c.if-ahead-count.true;
+      at_most = inv.at_most;
+      value = sym (slice_get-append_before xs (values_spelled c.args.code.now c.args.dict.now c.step.new.words.cursor.left) c.loop-words.ahead there)
+          ∙ ap (λ u. slice_get u c.loop-words.ahead) (sym e) ∙ inv.same taken.0;
+      spelled = omega (arith, n, same, c.count_of-count.ensures.number, before);
+    }
 
 pub returns-clause-none : goal.returns-clause-none
 returns-clause-none g c =

@@ -9,5 +9,5 @@ use Rattle.szg_build.proofs.reading.read_parts.Given as goal
 -- the parts so far were read, and the others are left
 abbrev pub invariant-parts : goal.invariant-parts
 invariant-parts g l =
-    GoesOn (each part_line (range_with_len 0 l.count)) (mapped (λ xs. map part_of l.parts.items ++ xs) (each part_line (range_with_len l.number (l.count - l.number)))) l.fn.incoming l.incoming g.R.Input l.fn.input l.input
-    × (length (held_of l.incoming) ≤ l.following + (l.count - l.number))
+    GoesOn (each part_line (range_with_len 0 l.count)) (mapped (λ xs. map part_of l.parts.items ++ xs) (each part_line (range_with_len l.number-counter (l.count - l.number-counter)))) l.fn.incoming l.incoming g.R.Input l.fn.input l.input
+    × (length (held_of l.incoming) ≤ l.following + (l.count - l.number-counter))

@@ -1,13 +1,10 @@
 use Rattle.std.proofs.Common.{◌≡◌, ◌∙◌, true, false, ap, refl, sym, subst}
 use Rattle.std.proofs.lemmas.Int.{to_z-of_z}
-use Rattle.std.specs.Prelude.{ℤ, IsNone, Err}
+use Rattle.std.specs.Prelude.{ℤ, Err}
 use mir.Syntax.{w8}
 use Rattle.szg_values.specs.declared.Kind.{Kind}
-use Rattle.szg_values.specs.declared.Kind.TheVariants.{Wdl, Dtz}
+use Rattle.szg_values.specs.declared.Kind.TheVariants.{Dtz}
 use Rattle.szg_file.specs.Index.{Index}
-use Rattle.szg_place.specs.Probes.{IsMeant, as_number}
-use Rattle.szg_place.specs.Spots.{place_fault, spot_of}
-use Rattle.szg_place.specs.Tables.{numbering_in}
 use Rattle.szg_c.specs.Outcomes.{IsOutcome}
 use Rattle.szg_c.specs.Places.{is_class}
 use Rattle.szg_c.specs.declared.places.Unfound.TheVariants.{Status}

@@ -1,4 +1,4 @@
-use Rattle.std.proofs.Common.{ℕ, Bool, ◌≡◌, ◌+◌, ◌-◌, ◌*◌, ◌≤◌, List, length, drop, refl, ap, arith}
+use Rattle.std.proofs.Common.{ℕ, Bool, ◌≡◌, ◌+◌, ◌-◌, ◌*◌, ◌≤◌, List, length, drop, refl, ap, sym, subst, arith}
 use Rattle.szg_code.specs.Bits.{bits}
 use Rattle.szg_code.specs.Canonical.{CanonicalCode}
 use Rattle.szg_code.specs.Cursor.{EndlessCursor}
@@ -16,25 +16,31 @@ returns-in_err-window-clause-none g c =
     let n : length (drop c.words.inside.offset (bits c.words.inside.bytes.now)) ≡ length c.args.words.now.cursor.left = ap (λ (u : List Bool). length u) left in
     rw c.from_residual.ensures (no_word_of_nothing c.args.code.now c.longest.ensures.accepted c.args.words.now.cursor.left (omega (arith, none, n, length-left c.words.inside.offset c.words.inside.bytes.now)))
 
-pub returns-in_err-symbol-clause-none : goal.returns-in_err-symbol-clause-none
-returns-in_err-symbol-clause-none g c =
+pub returns-in_err-word-clause-none : goal.returns-in_err-word-clause-none
+returns-in_err-word-clause-none g c =
     let code : CanonicalCode = c.args.code.now in
-    let j = c.reached_length-length.ensures in
+    let no = c.in_err-word.ensures.none in
     let h : HoldsBits c.words.inside.bytes.now c.words.inside.offset c.in_ok-window.window.bits (c.longest.result + c.in_ok-window.window.held) = c.in_ok-window.ensures.valid.holds in
     let room : code.max_length + h.spare ≤ 64 = let r = h.room in omega (arith, r, c.longest.ensures.length) in
-    rw c.from_residual-in_err-symbol.ensures (no_word_without code j.accepted c.words.inside.bytes.now c.words.inside.offset c.in_ok-window.window.bits h.spare h.is_window room
-    c.args.words.now.cursor (ap (λ (k : EndlessCursor). k.cursor.left) c.words.view_is) c.reached_length-length.result j.long j.short j.reaches j.before c.in_err-symbol.ensures.none)
+    rw c.from_residual-in_err-word.ensures (no_word_without code c.longest.ensures.accepted c.words.inside.bytes.now c.words.inside.offset c.in_ok-window.window.bits h.spare h.is_window room
+    c.args.words.now.cursor (ap (λ (k : EndlessCursor). k.cursor.left) c.words.view_is) no.l no.long no.short no.reaches no.before no.none)
+
+pub returns-clause-there : goal.returns-clause-there
+returns-clause-there g c = let word = c.in_ok-word.ensures.found in word.there
 
 pub invariant_of-words : goal.invariant_of-words
 invariant_of-words g c =
     let read = c.in_ok-window.ensures.valid in
     let near = read.near in
-    let short : c.reached_length-length.result ≤ c.longest.result = omega (arith, c.reached_length-length.ensures.short, c.longest.ensures.length) in
-    let moved = HoldsBits-moved c.words.inside.bytes.now c.words.inside.offset c.in_ok-window.window.bits (c.longest.result + c.in_ok-window.window.held) c.reached_length-length.result c.longest.result read.holds short (omega arith) in
+    let word = c.in_ok-word.ensures.found in
+    let most = word.short in
+    let short : c.in_ok-word.word.length ≤ c.longest.result = omega (arith, most, c.longest.ensures.length) in
+    let moved = HoldsBits-moved c.words.inside.bytes.now c.words.inside.offset c.in_ok-window.window.bits (c.longest.result + c.in_ok-window.window.held) c.in_ok-word.word.length c.longest.result read.holds short (omega arith) in
     record {
       fits = c.words.invariant.fits;
       near = omega (arith, near, short);
-      holds = HoldsBits-fewer c.words.inside.bytes.now (c.words.inside.offset + c.reached_length-length.result) _ _ c.in_ok-window.window.held moved (omega arith);
+      holds = subst (λ (w : ℕ). HoldsBits c.words.inside.bytes.now (c.words.inside.offset + c.in_ok-word.word.length) w c.in_ok-window.window.held) (sym word.rest)
+          (HoldsBits-fewer c.words.inside.bytes.now (c.words.inside.offset + c.in_ok-word.word.length) _ _ c.in_ok-window.window.held moved (omega arith));
     }
 
 pub returns-clause-found : goal.returns-clause-found
@@ -42,18 +48,17 @@ returns-clause-found g c inside =
     let code : CanonicalCode = c.args.code.now in
     let bytes : List ℕ = c.words.inside.bytes.now in
     let offset : ℕ = c.words.inside.offset in
-    let l = c.reached_length-length.ensures in
+    let l = c.in_ok-word.ensures.found in
     let old : EndlessCursor = c.args.words.now in
     let h : HoldsBits bytes offset c.in_ok-window.window.bits (c.longest.result + c.in_ok-window.window.held) = c.in_ok-window.ensures.valid.holds in
     let room : code.max_length + h.spare ≤ 64 = let r = h.room in omega (arith, r, c.longest.ensures.length) in
     let left : drop offset (bits bytes) ≡ old.cursor.left = ap (λ (k : EndlessCursor). k.cursor.left) c.words.view_is in
     let n : length (drop offset (bits bytes)) ≡ length old.cursor.left = ap (λ (u : List Bool). length u) left in
     let past : offset - 8 * length bytes ≡ old.past = ap (λ (k : EndlessCursor). k.past) c.words.view_is in
-    let some : 1 ≤ code.min_length = l.accepted.lengths.some_bits in
-    let symbol = c.in_ok-symbol.ensures.found in (
+    let some : 1 ≤ code.min_length = c.longest.ensures.accepted.lengths.some_bits in (
       omega (arith, inside, past),
-      takes_word code l.accepted bytes offset c.in_ok-window.window.bits h.spare h.is_window room old.cursor left c.reached_length-length.result l.long l.short l.reaches l.before _ c.in_ok-symbol.symbol
-          (omega (arith, inside, n, some, l.long, length-left offset bytes)) symbol.0 symbol.1 (ap (λ (k : EndlessCursor). k.cursor.taken) c.words.view_is) refl refl,
+      takes_word code c.longest.ensures.accepted bytes offset c.in_ok-window.window.bits h.spare h.is_window room old.cursor left c.in_ok-word.word.length l.long l.short l.reaches l.before _ c.in_ok-word.word.symbol
+          (let long = l.long in omega (arith, inside, n, some, long, length-left offset bytes)) l.symbol_is l.there (ap (λ (k : EndlessCursor). k.cursor.taken) c.words.view_is) refl refl,
     )
 
 pub returns-clause-past : goal.returns-clause-past
@@ -61,11 +66,11 @@ returns-clause-past g c past =
     let code : CanonicalCode = c.args.code.now in
     let bytes : List ℕ = c.words.inside.bytes.now in
     let offset : ℕ = c.words.inside.offset in
-    let l = c.reached_length-length.ensures in
+    let l = c.in_ok-word.ensures.found in
     let old : EndlessCursor = c.args.words.now in
     let h : HoldsBits bytes offset c.in_ok-window.window.bits (c.longest.result + c.in_ok-window.window.held) = c.in_ok-window.ensures.valid.holds in
     let room : code.max_length + h.spare ≤ 64 = let r = h.room in omega (arith, r, c.longest.ensures.length) in
     let left : drop offset (bits bytes) ≡ old.cursor.left = ap (λ (k : EndlessCursor). k.cursor.left) c.words.view_is in
     let n : length (drop offset (bits bytes)) ≡ length old.cursor.left = ap (λ (u : List Bool). length u) left in
-    no_word_past code l.accepted bytes offset c.in_ok-window.window.bits h.spare h.is_window room old.cursor left c.reached_length-length.result l.long l.short l.reaches l.before
+    no_word_past code c.longest.ensures.accepted bytes offset c.in_ok-window.window.bits h.spare h.is_window room old.cursor left c.in_ok-word.word.length l.long l.short l.reaches l.before
     (omega (arith, past, n, length-left offset bytes))

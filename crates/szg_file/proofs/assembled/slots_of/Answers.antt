@@ -6,7 +6,7 @@ use Rattle.szg_values.specs.Material.{Sides}
 use Rattle.szg_file.specs.Accepted.{IsPart}
 use Rattle.szg_file.specs.Contents.{Part, Slot, slots_from, part_slots, part_numbers, side_numbers}
 use Rattle.szg_file.specs.Held.{part_of}
-use Rattle.szg_file.specs.Parts.{part_with, slots_with}
+use Rattle.szg_file.specs.Parts.{part_with}
 use Rattle.szg_file.specs.declared.table.PartBytes.{PartBytes}
 use Rattle.szg_file.proofs.Tables.AssembledLaws.{map_next, all_next, all_at, sides_of_all, all_of_sides, orders_are_valid, orders_fail}
 use Rattle.szg_file.proofs.Readers.PartLaws.{slots-more, slots_few}
@@ -30,11 +30,11 @@ returns-then-order-order_count-clause-none c =
     (all_of_sides is_valid (part_numbers c.args.material.now) (map part_of c.args.parts.now) h)) in
     search (rules, is.order.0, is.men.0)
 
-pub returns-in-Err-clause-none : goal.returns-in-Err-clause-none
-returns-in-Err-clause-none c =
+pub returns-in_default-clause-none : goal.returns-in_default-clause-none
+returns-in_default-clause-none c =
     let is_valid : Part → Type 0 = IsPart c.args.material.now c.args.kind in
     let same : part_with c.as_slice-order.result.now c.as_slice-men.result.now ≡ part_of c.index-parts-n.result = lent_part _ _ c.index-parts-n.result c.as_slice-order.ensures.value c.as_slice-men.ensures.value in
-    λ h. orders_fail c.args.material.now c.args.kind 0 _ _ (part_with c.as_slice-order.result.now c.as_slice-men.result.now) c.in-Err.ensures.refuses
+    λ h. orders_fail c.args.material.now c.args.kind 0 _ _ (part_with c.as_slice-order.result.now c.as_slice-men.result.now) c.in_default.ensures.refuses
     (subst is_valid (sym same) (all_at is_valid part_of c.args.parts.now c.parts.n c.index-parts-n.result c.parts-test.true c.index-parts-n.is
     (all_of_sides is_valid (part_numbers c.args.material.now) (map part_of c.args.parts.now) h))).sides
 
@@ -52,20 +52,20 @@ parts-preserved c =
       men = (omega (arith, c.if-men-len.false, c.len.ensures, ap length c.men.ensures.codes), c.bytes_fit-in-parts.ensures);
       sides = orders_are_valid m c.args.kind 0 (part_with c.as_slice-order.result.now c.as_slice-men.result.now) c.in-Ok.ensures.passes;
     } in
+    let pushed : c.push_slots.new.slots.items ≡ c.parts.list.items ++ part_slots m sides n one = c.in-Ok.ensures.slots ∙ ap (λ (z : Part). c.parts.list.items ++ part_slots m sides n z) same in
     let count : 0 + length done ≡ n = omega (arith, length-map (take n c.args.parts.now) part_of, length-take n c.args.parts.now, c.parts-test.true) in
     record {
-      slots = c.push_slots.ensures
-          ∙ ap (λ (z : List Slot). z ++ slots_with n c.in-Ok.sizes.first c.in-Ok.sizes.second) c.parts.invariant.slots
-          ∙ ap (λ (z : List Slot). slots_from m sides 0 done ++ z) (sym c.in-Ok.ensures.slots ∙ ap (λ (z : Part). part_slots m sides n z) same)
+      slots = pushed
+          ∙ ap (λ (z : List Slot). z ++ part_slots m sides n one) c.parts.invariant.slots
           ∙ ap (λ (k : ℕ). slots_from m sides 0 done ++ part_slots m sides k one) (sym count)
           ∙ sym (slots-more m sides 0 done one)
           ∙ ap (λ (z : List Part). slots_from m sides 0 z) (sym longer);
       pass = all_next (IsPart m c.args.kind) part_of c.args.parts.now n c.index-parts-n.result c.parts-test.true c.index-parts-n.is c.parts.invariant.pass (subst (IsPart m c.args.kind) same is_part);
       few = omega (
         arith,
-        ap length c.push_slots.ensures,
-        length-append c.parts.list.items (slots_with n c.in-Ok.sizes.first c.in-Ok.sizes.second),
-        slots_few n c.in-Ok.sizes.first c.in-Ok.sizes.second,
+        ap length pushed,
+        length-append c.parts.list.items (part_slots m sides n one),
+        slots_few m c.args.kind n one,
         c.parts.invariant.few,
       );
     }

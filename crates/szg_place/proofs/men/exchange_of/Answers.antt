@@ -5,7 +5,10 @@ use Rattle.std.proofs.lemmas.Bool.{cases_Bool, eq-eqb, eqb-true}
 use Rattle.szg_values.specs.Men.{is_color}
 use Rattle.szg_values.specs.Material.{Sides, IsMaterial, is_symmetric, man_codes}
 use Rattle.szg_values.specs.Placement.{Board, PlacedMan, placement_fault}
-use Rattle.szg_values.specs.declared.Color.TheVariants.{Black}
+use denote.Enum.Bare.{sameb}
+use Rattle.szg_values.specs.contracts.Color.{the_type}
+use Rattle.szg_values.specs.declared.Color.{Color}
+use Rattle.szg_values.specs.declared.Color.TheVariants.{White, Black}
 use Rattle.szg_count.specs.Facts.{key_of, with_exchanged_halves}
 use Rattle.szg_place.specs.Keys.{men_key}
 use Rattle.szg_place.specs.Normal.{is_exchanged}
@@ -25,6 +28,10 @@ one_of m board list key stated own twin result mat e sound k t o w same other so
   | inl h ↦ let p = flipped_if m board list key stated own mat e sound k t o h.0 h.1 in (p.0, other h.0 ∙ sym p.1)
   | inr h ↦ let p = plain_if m board list key own mat e sound k o h in (p.0, same h ∙ w ∙ sym p.1)
 ]
+
+is_black : (color : Color) → sameb the_type color Black ≡ is_color Black color
+is_black White = refl
+is_black Black = refl
 
 clash : (b : Bool) → b ≡ false → b ≡ true → ⊥
 clash b e f = cc
@@ -71,9 +78,13 @@ returns-clause-men c =
     let stated = with_exchanged_halves c.key-key.result in let sound = subst (λ (l : List PlacedMan). IsNone (placement_fault l)) c.men.ensures.men c.men.ensures.no_fault in
     let due : c.key_if.result ≡ cond (not (c.key-key.result == c.key-own.result)) (with_exchanged_halves c.key-own.result) c.key-own.result =
     c.key_if.ensures ∙ ap (λ (k : ℕ). cond (not (c.key-key.result == c.key-own.result)) (with_exchanged_halves k) k) (sym c.key-own.ensures.key) in
-    let by = by_keys c.key-key.result c.key-own.result c.is_symmetric_with_black_to_move-symmetric_with_black.result in
-    (one_of m board list c.key-key.result stated c.key-own.result c.is_symmetric_with_black_to_move-symmetric_with_black.result (not (c.key-key.result == c.key-own.result) || c.is_symmetric_with_black_to_move-symmetric_with_black.result) c.material.ensures.named refl sound key
-    (turned list c.key-key.result stated sound key refl) c.key-own.ensures.key c.is_symmetric_with_black_to_move-symmetric_with_black.ensures by.0 by.1
+    let twin = c.symmetric.result && c.eq.result in
+    let own_symmetric : c.symmetric.result ≡ is_symmetric m = c.symmetric.ensures in
+    let is : twin ≡ (is_symmetric m && is_color Black board.mover) =
+    ap (λ (b : Bool). b && c.eq.result) own_symmetric ∙ ap (λ (b : Bool). is_symmetric m && b) (c.eq.ensures ∙ is_black c.mover.result ∙ ap (is_color Black) c.mover.ensures) in
+    let by = by_keys c.key-key.result c.key-own.result twin in
+    (one_of m board list c.key-key.result stated c.key-own.result twin (not (c.key-key.result == c.key-own.result) || twin) c.material.ensures.named refl sound key
+    (turned list c.key-key.result stated sound key refl) c.key-own.ensures.key is by.0 by.1
     (one c.key-key.result stated c.key-own.result c.key_if.result c.key-own.ensures.small refl due c.if-key-key_if.false)).0
 
 pub returns-clause-exchanged : goal.returns-clause-exchanged
@@ -82,7 +93,11 @@ returns-clause-exchanged c =
     let stated = with_exchanged_halves c.key-key.result in let sound = subst (λ (l : List PlacedMan). IsNone (placement_fault l)) c.men.ensures.men c.men.ensures.no_fault in
     let due : c.key_if.result ≡ cond (not (c.key-key.result == c.key-own.result)) (with_exchanged_halves c.key-own.result) c.key-own.result =
     c.key_if.ensures ∙ ap (λ (k : ℕ). cond (not (c.key-key.result == c.key-own.result)) (with_exchanged_halves k) k) (sym c.key-own.ensures.key) in
-    let by = by_keys c.key-key.result c.key-own.result c.is_symmetric_with_black_to_move-symmetric_with_black.result in
-    (one_of m board list c.key-key.result stated c.key-own.result c.is_symmetric_with_black_to_move-symmetric_with_black.result (not (c.key-key.result == c.key-own.result) || c.is_symmetric_with_black_to_move-symmetric_with_black.result) c.material.ensures.named refl sound key
-    (turned list c.key-key.result stated sound key refl) c.key-own.ensures.key c.is_symmetric_with_black_to_move-symmetric_with_black.ensures by.0 by.1
+    let twin = c.symmetric.result && c.eq.result in
+    let own_symmetric : c.symmetric.result ≡ is_symmetric m = c.symmetric.ensures in
+    let is : twin ≡ (is_symmetric m && is_color Black board.mover) =
+    ap (λ (b : Bool). b && c.eq.result) own_symmetric ∙ ap (λ (b : Bool). is_symmetric m && b) (c.eq.ensures ∙ is_black c.mover.result ∙ ap (is_color Black) c.mover.ensures) in
+    let by = by_keys c.key-key.result c.key-own.result twin in
+    (one_of m board list c.key-key.result stated c.key-own.result twin (not (c.key-key.result == c.key-own.result) || twin) c.material.ensures.named refl sound key
+    (turned list c.key-key.result stated sound key refl) c.key-own.ensures.key is by.0 by.1
     (one c.key-key.result stated c.key-own.result c.key_if.result c.key-own.ensures.small refl due c.if-key-key_if.false)).1

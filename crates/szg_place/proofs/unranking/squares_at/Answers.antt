@@ -12,21 +12,21 @@ use Rattle.szg_place.proofs.unranking.squares_at.Goals as goal
 
 pub nonzero_div-number : goal.nonzero_div-number
 nonzero_div-number g c =
-    let grouped : AreGrouped c.args.material.now c.args.part g.given.0 c.args.groups.now = record { has_part = c.requires.0; ordered = c.requires.1.0; groups_are = c.requires.1.1.0 } in
+    let grouped : AreGrouped c.args.material.now c.args.part g.given.0 c.args.grouped.now.groups = record { has_part = c.requires.0; ordered = c.requires.1.0; groups_are = c.requires.1.1.0 } in
     let t = stating_at c.args.index c.material.ensures.named grouped c.requires.1.1.1.0 c.requires.1.1.1.1.0 in
     let s = step_in c.material.ensures.named grouped t.lists c.loop-i-test.true c.count-i-end.ensures c.group-group.ensures in
     let a = (placed_at t s).factor in omega (arith, a)
 
 pub nonzero_rem-number : goal.nonzero_rem-number
 nonzero_rem-number g c =
-    let grouped : AreGrouped c.args.material.now c.args.part g.given.0 c.args.groups.now = record { has_part = c.requires.0; ordered = c.requires.1.0; groups_are = c.requires.1.1.0 } in
+    let grouped : AreGrouped c.args.material.now c.args.part g.given.0 c.args.grouped.now.groups = record { has_part = c.requires.0; ordered = c.requires.1.0; groups_are = c.requires.1.1.0 } in
     let t = stating_at c.args.index c.material.ensures.named grouped c.requires.1.1.1.0 c.requires.1.1.1.1.0 in
     let s = step_in c.material.ensures.named grouped t.lists c.loop-i-test.true c.count-i-end.ensures c.group-group.ensures in
     let a = (placed_at t s).ways in omega (arith, a)
 
 pub unrank_group-set-requires : goal.unrank_group-set-requires
 unrank_group-set-requires g c =
-    let grouped : AreGrouped c.args.material.now c.args.part g.given.0 c.args.groups.now = record { has_part = c.requires.0; ordered = c.requires.1.0; groups_are = c.requires.1.1.0 } in
+    let grouped : AreGrouped c.args.material.now c.args.part g.given.0 c.args.grouped.now.groups = record { has_part = c.requires.0; ordered = c.requires.1.0; groups_are = c.requires.1.1.0 } in
     let t = stating_at c.args.index c.material.ensures.named grouped c.requires.1.1.1.0 c.requires.1.1.1.1.0 in
     let s = step_in c.material.ensures.named grouped t.lists c.loop-i-test.true c.count-i-end.ensures c.group-group.ensures in
     let sets = g.given.1 in let i = c.loop-i.i in let group = c.group-group.result in
@@ -36,7 +36,7 @@ unrank_group-set-requires g c =
 
 pub append-requires : goal.append-requires
 append-requires g c =
-    let grouped : AreGrouped c.args.material.now c.args.part g.given.0 c.args.groups.now = record { has_part = c.requires.0; ordered = c.requires.1.0; groups_are = c.requires.1.1.0 } in
+    let grouped : AreGrouped c.args.material.now c.args.part g.given.0 c.args.grouped.now.groups = record { has_part = c.requires.0; ordered = c.requires.1.0; groups_are = c.requires.1.1.0 } in
     let t = stating_at c.args.index c.material.ensures.named grouped c.requires.1.1.1.0 c.requires.1.1.1.1.0 in
     let s = step_in c.material.ensures.named grouped t.lists c.loop-i-test.true c.count-i-end.ensures c.group-group.ensures in
     let more = c.as_slice-in-loop-i.ensures.value ∙ set_stated (placed_at t s) c.unrank_group-set.ensures in
@@ -44,7 +44,7 @@ append-requires g c =
 
 pub loop-i-preserved : goal.loop-i-preserved
 loop-i-preserved g c =
-    let grouped : AreGrouped c.args.material.now c.args.part g.given.0 c.args.groups.now = record { has_part = c.requires.0; ordered = c.requires.1.0; groups_are = c.requires.1.1.0 } in
+    let grouped : AreGrouped c.args.material.now c.args.part g.given.0 c.args.grouped.now.groups = record { has_part = c.requires.0; ordered = c.requires.1.0; groups_are = c.requires.1.1.0 } in
     let t = stating_at c.args.index c.material.ensures.named grouped c.requires.1.1.1.0 c.requires.1.1.1.1.0 in
     let s = step_in c.material.ensures.named grouped t.lists c.loop-i-test.true c.count-i-end.ensures c.group-group.ensures in
     let sets = g.given.1 in let i = c.loop-i.i in
@@ -54,7 +54,7 @@ loop-i-preserved g c =
 
 pub returns : goal.returns
 returns g c =
-    let grouped : AreGrouped c.args.material.now c.args.part g.given.0 c.args.groups.now = record { has_part = c.requires.0; ordered = c.requires.1.0; groups_are = c.requires.1.1.0 } in
+    let grouped : AreGrouped c.args.material.now c.args.part g.given.0 c.args.grouped.now.groups = record { has_part = c.requires.0; ordered = c.requires.1.0; groups_are = c.requires.1.1.0 } in
     let sides = c.args.material.now in let part = c.args.part in let sets = g.given.1 in
     let t = stating_at c.args.index c.material.ensures.named grouped c.requires.1.1.1.0 c.requires.1.1.1.1.0 in
     let many = stated_many sides part g.given.0 sets t.lists in let q = ap length c.requires.1.1.0 in let n = c.count-i-end.ensures in let f = c.loop-i-test.false in

@@ -3,7 +3,7 @@ use Rattle.std.proofs.lemmas.Result.{err_from_is_err_and}
 use Rattle.szg_file.specs.Held.{part_of}
 use Rattle.szg_build.specs.Dump.{subtable_ids_of}
 use Rattle.szg_build.specs.Plan.{sizes_if_valid}
-use Rattle.szg_build.specs.Rests.{subtable_shown}
+use Rattle.szg_build.specs.Wholes.{subtable_shown}
 use Rattle.szg_build.specs.Packed.{gathered_dump}
 use Rattle.szg_build.specs.Shown.{form_of}
 use Rattle.szg_build.proofs.Readers.GoingLaws.{goes_unheld}

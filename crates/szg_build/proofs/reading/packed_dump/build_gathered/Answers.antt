@@ -1,4 +1,4 @@
-use Rattle.std.proofs.Common.{◌≡◌, ◌⊎◌, ◌∙◌, ℕ, List, Option, None, Some, Ok, Err, Bor, length, map, ap, inl, inr, refl, arith, sym, subst}
+use Rattle.std.proofs.Common.{◌≡◌, ◌⊎◌, ◌∙◌, ℕ, List, Option, None, Some, Ok, Err, Bor, length, map, ap, inl, inr, refl, arith, rules, sym, subst}
 use Rattle.std.specs.Prelude.{Result, IfErr, IfOk, MatchOption}
 use Rattle.std.proofs.lemmas.Grind.{common_steps}
 use Rattle.std.specs.List.{AllByRecursion}
@@ -10,7 +10,7 @@ use Rattle.szg_build.specs.Tabling.{IsBuiltBy, HasNoFault}
 use Rattle.szg_build.specs.declared.BuildFault.{BuildFault}
 use Rattle.szg_build.specs.declared.BuildFault.TheVariants.{Memory}
 use Rattle.szg_subtable.specs.declared.building.Packing.{Packing}
-use Rattle.szg_build.proofs.Builders.PackedLaws.{whole_built}
+use Rattle.szg_build.proofs.Builders.PackedLaws.{settled_are_made, whole_built}
 use Rattle.szg_build.proofs.Builders.PassLaws.{whole_passes}
 use Rattle.szg_build.proofs.Builders.TableLaws.{no_items}
 use Rattle.szg_build.proofs.reading.packed_dump.build_gathered.Goals as goal
@@ -19,16 +19,30 @@ pub are_complete-requires : goal.are_complete-requires
 are_complete-requires g c =
     (c.args.choice, subst (λ z. AllByRecursion (IsPackedSub c.args.gathered.header.kind c.args.choice) z) (sym c.deref.ensures.value) c.requires.each)
 
-pub assemble-requires-clause-flags : goal.assemble-requires-clause-flags
-assemble-requires-clause-flags g c =
+pub table_from-requires : goal.table_from-requires
+table_from-requires g c =
     let count : length c.args.gathered.subs.rest.items ≡ 0 = grind (arith, common_steps, c.is_empty.ensures, c.if-is_empty.true) in
-    c.requires.flags (no_items c.args.gathered.subs.rest.items count)
+    let none = no_items c.args.gathered.subs.rest.items count in
+    let numbers = c.numbers_of-numbers.result in
+    let taken : c.in_ok-made.made.items ≡ map (λ p. p.sub) c.in_ok-settled.settled.items = search rules in
+    let made = settled_are_made c.args.choice (dump_plan (gathered_dump c.args.gathered) numbers.block_bits numbers.span_bits numbers.rounds) c.args.gathered.subs.packed.items c.in_ok-settled.settled.items c.in_ok-made.made.items
+    (subst (λ z. HasNoFault (dump_plan (gathered_dump c.args.gathered) numbers.block_bits numbers.span_bits numbers.rounds) (map (packed_values c.args.gathered.header.kind) z))
+    c.deref.ensures.value (c.are_complete.ensures c.if-are_complete.true))
+    (c.requires.flags none) c.in_ok-settled.ensures taken in
+    (c.args.choice, map (packed_values c.args.gathered.header.kind) c.args.gathered.subs.packed.items, made)
 
 pub returns-then-are_complete-clause-built : goal.returns-then-are_complete-clause-built
 returns-then-are_complete-clause-built g c =
     let count : length c.args.gathered.subs.rest.items ≡ 0 = grind (arith, common_steps, c.is_empty.ensures, c.if-is_empty.true) in
     let none = no_items c.args.gathered.subs.rest.items count in
-    whole_built c.args.choice c.args.gathered c.numbers_of-numbers.result c.in_ok-assemble.field-0.contents c.numbers_of-numbers.ensures none c.in_ok-assemble.ensures.built
+    let numbers = c.numbers_of-numbers.result in
+    let taken : c.in_ok-made.made.items ≡ map (λ p. p.sub) c.in_ok-settled.settled.items = search rules in
+    let made = settled_are_made c.args.choice (dump_plan (gathered_dump c.args.gathered) numbers.block_bits numbers.span_bits numbers.rounds) c.args.gathered.subs.packed.items c.in_ok-settled.settled.items c.in_ok-made.made.items
+    (subst (λ z. HasNoFault (dump_plan (gathered_dump c.args.gathered) numbers.block_bits numbers.span_bits numbers.rounds) (map (packed_values c.args.gathered.header.kind) z))
+    c.deref.ensures.value (c.are_complete.ensures c.if-are_complete.true))
+    (c.requires.flags none) c.in_ok-settled.ensures taken in
+    whole_built c.args.choice c.args.gathered numbers c.in_ok-table_from.field-0.contents c.numbers_of-numbers.ensures none
+    (c.in_ok-table_from.ensures.built c.args.choice (map (packed_values c.args.gathered.header.kind) c.args.gathered.subs.packed.items) made)
 
 pub returns-then-are_complete-clause-no_fault : goal.returns-then-are_complete-clause-no_fault
 returns-then-are_complete-clause-no_fault g c =

@@ -1,4 +1,4 @@
-use Rattle.std.proofs.Common.{ℕ, Bool, ◌≡◌, ◌+◌, ◌-◌, ◌*◌, ◌/◌, ◌%◌, ◌^◌, ◌<◌, ◌≤◌, List, ◌++◌, length, get_or, take, sym, ap, ◌∙◌, subst, arith}
+use Rattle.std.proofs.Common.{ℕ, Bool, ◌≡◌, ◌+◌, ◌-◌, ◌*◌, ◌/◌, ◌%◌, ◌^◌, ◌<◌, ◌≤◌, List, ◌++◌, length, get_or, take, sym, ap, ◌∙◌, subst, arith, rules}
 use Rattle.std.specs.Prelude.{bit_or, Result, Ok, Err, OnErr, vec_capacity}
 use Rattle.std.proofs.lemmas.List.{length-take}
 use Rattle.szg_code.specs.Bits.{bits, bits_of_number}
@@ -32,10 +32,11 @@ after c =
     let l : ℕ = c.from-length.result in
     let b : ℕ = c.from-partial.result in
     let joined : ℕ = bit_or (b * 72057594037927936 % 18446744073709551616) (v * 2 ^ (64 - count % 8 - l) % 18446744073709551616) in
-    let at : b ≡ get_or bytes (count / 8) 0 = c.from-partial.ensures ∙ c.byte_or_zero.ensures ∙ ap (λ (xs : List ℕ). get_or xs (count / 8) 0) c.deref.ensures.value in
+    let read : c.unwrap_or.result ≡ get_or bytes (count / 8) 0 = search rules in
+    let at : b ≡ get_or bytes (count / 8) 0 = c.from-partial.ensures ∙ read in
     let short : l ≤ 32 = omega (arith, c.from-length.ensures, c.requires.short) in
     let small : v < 2 ^ l = rw (c.from.ensures, c.from-length.ensures) c.requires.spelled in
-    let byte : b < 256 = omega (arith, c.from-partial.ensures, c.byte_or_zero.type_inv) in
+    let byte : b < 256 = omega (arith, c.from-partial.ensures, c.unwrap_or.type_inv) in
     let is = joined-or bytes count l v b c.self.invariant at byte short small in
     let made = c.in_ok-put_bytes.ensures.ok ∙ ap (λ (xs : List ℕ). take (count / 8) bytes ++ take ((count % 8 + l + 7) / 8) xs) c.to_be_bytes.ensures in
     HoldsBits-word bytes c.put_bytes.new.bytes.items count l v b joined c.self.invariant at short small is made

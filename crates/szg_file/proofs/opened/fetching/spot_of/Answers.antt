@@ -6,4 +6,4 @@ use Rattle.szg_file.proofs.opened.fetching.spot_of.Goals as goal
 pub locate_value-requires-clause-index : goal.locate_value-requires-clause-index
 locate_value-requires-clause-index c =
     let sized = ap (λ (s : Slot). s.size) c.slot.view_is in
-    subst (λ (n : ℕ). IsLocatable c.args.found.now.placed.now.sub n) (sym sized) c.requires.index
+    subst (λ (n : ℕ). IsLocatable c.args.placed.now.sub n) (sym sized) c.requires.index

@@ -1,4 +1,4 @@
-use Rattle.std.proofs.Common.{◌≡◌, ℕ, Bool, ap, None, length, List, sym, subst, arith}
+use Rattle.std.proofs.Common.{◌≡◌, ℕ, Bool, true, false, ap, None, length, List, replicate, refl, sym, subst, ◌∙◌, arith}
 use Rattle.std.proofs.lemmas.List.{length-take-le}
 use Rattle.std.proofs.lemmas.Result.{err_from_is_err_and}
 use Rattle.szg_block.specs.Subtable.{layout_of}
@@ -9,8 +9,9 @@ use Rattle.szg_file.specs.Placed.{whole_sub}
 use Rattle.szg_file.specs.Streaming.{Accepted, values_if}
 use Rattle.szg_file.specs.Values.{values_in}
 use Rattle.szg_file.proofs.Readers.PassedBlocks.{valid_at}
-use Rattle.szg_file.proofs.Readers.Streamed.{placed_accepted}
-use Rattle.szg_file.proofs.Readers.PlacedSubs.{placed_at, lacks_first, reads_unfilled, reads_constant, constant_fits, placed_fits, reads_placed, reads_placed_stopped, ends_at, room_is, roomy_for, still_long}
+use Rattle.szg_file.proofs.Readers.Streamed.{accepted_as, accepted_one, accepted_unwanted, accepted_wanted, constant_values, placed_accepted}
+use Rattle.szg_file.proofs.Readers.PlacedSubs.{constant_whole, placed_at, lacks_first, reads_unfilled, reads_constant, constant_fits, placed_fits, reads_placed, reads_placed_stopped, ends_at, room_is, roomy_for, still_long}
+use Rattle.szg_file.proofs.reading.dropping.pass_sub.Goals.{then-wants+in-Ok, else-wants}
 use Rattle.szg_file.proofs.reading.dropping.pass_sub.Goals as goal
 
 pub returns-then-is_constant-clause-blocks : goal.returns-then-is_constant-clause-blocks
@@ -20,9 +21,38 @@ returns-then-is_constant-clause-blocks g c =
 pub returns-then-is_constant-clause-fits : goal.returns-then-is_constant-clause-fits
 returns-then-is_constant-clause-fits g c = constant_fits _ _ c.measured.inside.sub (c.is_constant.ensures.0 c.if-is_constant.true)
 
+pub returns-in_default-clause-blocks : goal.returns-in_default-clause-blocks
+returns-in_default-clause-blocks g c = lacks_first _ _
+
+pub returns-then-is_constant-clause-accepted : goal.returns-then-is_constant-clause-accepted
+returns-then-is_constant-clause-accepted g c =
+    let accepts = g.K.ValueSink.accepts in
+    let none : layout_of c.measured.inside.sub ≡ None = c.is_constant.ensures.0 c.if-is_constant.true in
+    let moved : List ℕ = g.R.Input.moved c.args.input.now in
+    let size : ℕ = c.slot.inside.size in
+    let wanted : Bool = g.K.ValueSink.wanted c.args.sink.now c.slot.inside.part c.slot.inside.side in
+    let values : List ℕ = values_in c.args.kind size (whole_sub moved (placed_at c.measured.inside.sub 0)) in
+    let base : Accepted accepts (values_if wanted values) c.args.sink.now c.args.out.now c.if-wants.sink c.if-wants.out = elim c.if-wants.branch [
+      | then-wants+in-Ok v ↦
+          let on : wanted ≡ true = cc in
+          let same : replicate size v.constant_value.result ≡ values =
+          ap (λ (k : ℕ). replicate size k) v.constant_value.ensures ∙ constant_values c.args.kind size c.measured.inside.sub none
+          ∙ ap (values_in c.args.kind size) (sym (constant_whole moved c.measured.inside.sub 0 none)) in
+          rw (v.sink-is, v.out-is) (accepted_wanted accepts wanted values on (accepted_as accepts (replicate size v.constant_value.result) values same (accepted_one accepts (replicate size v.constant_value.result) v.in-Ok.ensures.accepted)))
+      | else-wants v ↦
+          let off : wanted ≡ false = cc in
+          rw (v.sink-is, v.out-is) (accepted_unwanted accepts wanted values c.args.sink.now c.args.out.now off)
+    ] in
+    rw (← c.measured.view_is)
+    (subst (λ (s : Slot). Accepted accepts (values_if (g.K.ValueSink.wanted c.args.sink.now s.part s.side) (values_in c.args.kind s.size (whole_sub moved (placed_at c.measured.inside.sub 0)))) c.args.sink.now c.args.out.now c.if-wants.sink c.if-wants.out)
+    c.slot.view_is base)
+
+pub returns-then-is_constant-clause-wanted : goal.returns-then-is_constant-clause-wanted
+returns-then-is_constant-clause-wanted g c = elim c.if-wants.branch [ then-wants+in-Ok v ↦ rw v.sink-is v.put_same.ensures.stays | else-wants v ↦ rw v.sink-is refl ]
+
 pub returns-in_err-make_room-clause-blocks : goal.returns-in_err-make_room-clause-blocks
 returns-in_err-make_room-clause-blocks g c =
-    let p = err_from_is_err_and c.from_residual-in_err-make_room.result c.from_residual-in_err-make_room.ensures.1 in
+    let p = err_from_is_err_and c.from_residual.result c.from_residual.ensures.1 in
     let memory : c.in_err-make_room.field-0.0 ≡ Memory = let e = c.in_err-make_room.ensures.memory in cc in
     rw (p.1, p.2, memory) (lacks_first _ _)
 

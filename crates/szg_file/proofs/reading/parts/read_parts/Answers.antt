@@ -8,9 +8,7 @@ use Rattle.szg_file.specs.Contents.{Part, Slot, slots_from, part_slots, side_num
 use Rattle.szg_file.specs.Format.{Format, means}
 use Rattle.szg_file.specs.File.{each, part_field}
 use Rattle.szg_file.specs.Held.{part_of}
-use Rattle.szg_file.specs.Parts.{slots_with}
 use Rattle.szg_file.specs.declared.table.PartBytes.{PartBytes}
-use Rattle.szg_file.specs.declared.reading.parts.SideSizes.{SideSizes}
 use Rattle.szg_file.specs.declared.fault.ReadFault.{ReadFault}
 use Rattle.szg_file.specs.declared.fault.ReadFault.TheVariants.{Memory}
 use Rattle.szg_file.proofs.Readers.ReadingLaws.{reads_nothing, reads_more, reads_more_stopped}
@@ -29,10 +27,6 @@ numbers_at numbers end part e h =
     let here : 0 + part ≡ part = omega arith in
     e ∙ ap (range_with_len 0) there ∙ numbers-split 0 part (end - part - 1)
     ∙ ap (λ (k : ℕ). range_with_len 0 part ++ k ∷ range_with_len (k + 1) (end - part - 1)) here
-
--- a part that was read
-abbrev read_as : PartBytes × SideSizes → Part
-read_as read = part_of read.0
 
 -- the bytes of a part
 abbrev bytes_of_part : PartBytes → ℕ
@@ -77,7 +71,7 @@ returns-in_err-append-clause-parts g c =
     let e = numbers_at _ c.part_count-part-end.result c.parts.part c.part_count-part-end.ensures.numbers c.parts-test.true in
     let stopped = reads_more_stopped one (range_with_len 0 c.parts.part) c.parts.part (range_with_len (c.parts.part + 1) (c.part_count-part-end.result - c.parts.part - 1))
     _ _ (λ parts. map part_of parts.bytes.items) tt Memory c.parts.invariant.0
-    (reads_lacking (one c.parts.part) read_as read_as (c.in_ok-bytes.bytes, c.in_ok-bytes.sizes) c.in_ok-bytes.ensures.part) in
+    (reads_lacking (one c.parts.part) part_of part_of c.in_ok-bytes.bytes c.in_ok-bytes.ensures.part) in
     let fault : c.in_err-append.field-0.0 ≡ Memory = fault_inside c.in_err-append.field-0.0 c.in_err-append.ensures.memory in
     rw (p.1, p.2, fault) (reads_equal _ _ _ (Err Memory) (ap (each one) (sym e)) stopped)
 
@@ -89,16 +83,16 @@ parts-preserved g c =
     let i : ℕ = c.parts.part in
     let pushed : map part_of c.append.new.list.items ≡ map part_of c.parts.parts.bytes.items ++ part_of c.in_ok-bytes.bytes ∷ [] =
     ap (map part_of) c.in_ok-append.ensures.items ∙ map-append part_of c.parts.parts.bytes.items (c.in_ok-bytes.bytes ∷ []) in
-    let read = reads_more one (range_with_len 0 i) i _ read_as
-    (λ (_ : Unit {0}). map part_of c.append.new.list.items) tt (c.in_ok-bytes.bytes, c.in_ok-bytes.sizes) tt pushed
+    let read = reads_more one (range_with_len 0 i) i _ part_of
+    (λ (_ : Unit {0}). map part_of c.append.new.list.items) tt c.in_ok-bytes.bytes tt pushed
     c.parts.invariant.0
-    (reads_as (one i) (one i) read_as read_as (c.in_ok-bytes.bytes, c.in_ok-bytes.sizes) (c.in_ok-bytes.bytes, c.in_ok-bytes.sizes) refl refl c.in_ok-append.ensures.place c.in_ok-append.ensures.fill c.in_ok-bytes.ensures.part) in
+    (reads_as (one i) (one i) part_of part_of c.in_ok-bytes.bytes c.in_ok-bytes.bytes refl refl c.in_ok-append.ensures.place c.in_ok-append.ensures.fill c.in_ok-bytes.ensures.part) in
     let count : length (map part_of c.parts.parts.bytes.items) ≡ i = length-map c.parts.parts.bytes.items part_of ∙ c.parts.invariant.2 in
     let place : 0 + length (map part_of c.parts.parts.bytes.items) ≡ i = omega (arith, count) in
-    let slots : c.push_slots.new.slots.items ≡ slots_from m sides 0 (map part_of c.append.new.list.items) =
-    c.push_slots.ensures
-    ∙ ap (λ (z : List Slot). z ++ slots_with i c.in_ok-bytes.sizes.first c.in_ok-bytes.sizes.second) c.parts.invariant.1
-    ∙ ap (λ (z : List Slot). slots_from m sides 0 (map part_of c.parts.parts.bytes.items) ++ z) (sym c.in_ok-bytes.ensures.slots)
+    let one_slots : List Slot = part_slots m sides i (part_of c.in_ok-bytes.bytes) in
+    let slots : c.read_part.new.slots.items ≡ slots_from m sides 0 (map part_of c.append.new.list.items) =
+    c.in_ok-bytes.ensures.slots
+    ∙ ap (λ (z : List Slot). z ++ one_slots) c.parts.invariant.1
     ∙ ap (λ (k : ℕ). slots_from m sides 0 (map part_of c.parts.parts.bytes.items) ++ part_slots m sides k (part_of c.in_ok-bytes.bytes)) (sym place)
     ∙ sym (slots-more m sides 0 (map part_of c.parts.parts.bytes.items) (part_of c.in_ok-bytes.bytes))
     ∙ ap (λ (z : List Part). slots_from m sides 0 z) (sym pushed) in (
@@ -107,9 +101,9 @@ parts-preserved g c =
       ap length c.in_ok-append.ensures.items ∙ length-append c.parts.parts.bytes.items (c.in_ok-bytes.bytes ∷ []) ∙ ap (λ (n : ℕ). n + 1) c.parts.invariant.2,
       omega (
         arith,
-        ap length c.push_slots.ensures,
-        length-append c.parts.parts.slots.items (slots_with i c.in_ok-bytes.sizes.first c.in_ok-bytes.sizes.second),
-        slots_few i c.in_ok-bytes.sizes.first c.in_ok-bytes.sizes.second,
+        ap length c.in_ok-bytes.ensures.slots,
+        length-append c.parts.parts.slots.items one_slots,
+        slots_few m c.args.kind i (part_of c.in_ok-bytes.bytes),
         c.parts.invariant.3,
       ),
       omega (arith, c.parts.invariant.4, c.in_ok-bytes.ensures.place, c.in_ok-append.ensures.place),

@@ -1,11 +1,12 @@
-use Rattle.std.proofs.Common.{[], ◌∷◌, ◌++◌, List, refl}
-use Rattle.std.specs.Prelude.{flat_map}
+use Rattle.std.proofs.Common.{[], ◌∷◌, ◌++◌, List, Option, ap, refl}
+use Rattle.std.specs.Prelude.{map, flat_map, option_map}
 use Rattle.szg_file.specs.File.{magic_of}
-use Rattle.szg_file.specs.FileOf.{Section, written, padding, part_sections, head_sections, maps_sections, sparse_sections, lengths_sections, blocks_sections}
-use Rattle.szg_file.specs.Contents.{Contents}
-use Rattle.szg_file.specs.Held.{part_of, subtable_of}
-use Rattle.szg_file.specs.Sections.{contents_in}
-use Rattle.szg_file.proofs.Writers.SectionLaws.{took_none, took_field, took_more, took_then, took_mapped}
+use Rattle.szg_file.specs.FileOf.{Section, written, padding, part_sections, head_sections, map_sections, maps_sections, sparse_sections, lengths_sections, blocks_sections}
+use Rattle.szg_file.specs.Contents.{Contents, Map}
+use Rattle.szg_file.specs.Held.{map_of, part_of, subtable_of}
+use Rattle.szg_file.specs.Sections.{Took, contents_in}
+use Rattle.szg_file.proofs.Writers.SectionLaws.{took_as, took_none, took_field, took_more, took_then, took_mapped}
+use Rattle.szg_file.proofs.writing.sections.put_sections.Goals.{in-Dtz, in_default}
 use Rattle.szg_file.proofs.writing.sections.put_sections.Goals as goal
 
 pub returns : goal.returns
@@ -19,6 +20,16 @@ returns g c =
     let lengths : List Section = flat_map lengths_sections t.subtables in
     let blocks : List Section = flat_map blocks_sections t.subtables in
     let ending : List Section = padding 64 ∷ written t.last ∷ [] in
+    let lists : List (Option Map) = map (option_map map_of) c.args.fields.now.maps.now in
+    let took_maps : Took takes maps c.put_each-2.new.sink c.put_each-2.new.out c.match-kind.sink c.match-kind.out = elim c.match-kind.branch [
+      | in-Dtz w ↦
+          rw (w.sink-is, w.out-is)
+          (took_as takes (ap (λ kind. maps_sections kind lists) w.in-Dtz.is)
+          (took_then takes (flat_map map_sections lists) (padding 2 ∷ [])
+          (took_mapped takes map_sections (option_map map_of) c.args.fields.now.maps.now (w.put_each-in-Dtz.ensures (λ item. map_sections (option_map map_of item)) (λ item sink rest out left said. said)))
+          (took_more takes refl w.padding-in-Dtz.ensures (took_none takes _ _))))
+      | in_default w ↦ rw (w.sink-is, w.out-is) (took_as takes (ap (λ kind. maps_sections kind lists) w.in_default.is) (took_none takes _ _))
+    ] in
     took_then takes (((((parts ++ heads) ++ maps) ++ indexes) ++ lengths) ++ blocks) ending
     (took_then takes ((((parts ++ heads) ++ maps) ++ indexes) ++ lengths) blocks
     (took_then takes (((parts ++ heads) ++ maps) ++ indexes) lengths
@@ -30,7 +41,7 @@ returns g c =
     (took_mapped takes part_sections part_of c.args.fields.now.parts.now (c.put_each.ensures (λ part. part_sections (part_of part)) (λ item sink rest out left said. said)))))
     (took_more takes refl c.padding.ensures
     (took_mapped takes head_sections subtable_of c.args.fields.now.subs.now (c.put_each-2.ensures (λ sub. head_sections (subtable_of sub)) (λ item sink rest out left said. said)))))
-    c.put_maps.ensures)
+    took_maps)
     (took_mapped takes sparse_sections subtable_of c.args.fields.now.subs.now (c.put_each-3.ensures (λ sub. sparse_sections (subtable_of sub)) (λ item sink rest out left said. said))))
     (took_mapped takes lengths_sections subtable_of c.args.fields.now.subs.now (c.put_each-4.ensures (λ sub. lengths_sections (subtable_of sub)) (λ item sink rest out left said. said))))
     (took_mapped takes blocks_sections subtable_of c.args.fields.now.subs.now (c.put_each-5.ensures (λ sub. blocks_sections (subtable_of sub)) (λ item sink rest out left said. said))))

@@ -1,6 +1,7 @@
 use Rattle.std.proofs.Common.{ℕ, List, ◌≡◌, ◌<◌, true, length, get_or, sym, subst, ◌∙◌, arith, inl, inr}
 use Rattle.std.specs.List.{AllByRecursion}
 use Rattle.std.proofs.lemmas.List.{length-set, take_all}
+use Rattle.std.proofs.lemmas.Option.{slice_get_within}
 use Rattle.szg_code.specs.Canonical.{IsIn}
 use Rattle.szg_subtable.proofs.Pairs.ProposalLaws.{below_push, in_at, marked_more}
 use Rattle.szg_subtable.proofs.pairing.accepting.are_used.Goals as goal
@@ -22,8 +23,8 @@ returns-clause-below c = λ _.
     subst (λ (z : List ℕ). AllByRecursion (λ s. s < length c.args.entries.now) z) (take_all c.loop-symbol.symbol-index c.args.symbols.now (omega arith)) c.loop-symbol.invariant.below
 
 pub returns-clause-used : goal.returns-clause-used
-returns-clause-used c = λ all s entry there paired.
-    elim (c.loop-pair.invariant.marked s (c.are_marked.ensures all s entry there paired)) [
+returns-clause-used c = λ _ s entry there paired.
+    elim (c.loop-pair.invariant.marked s (c.loop-place.invariant s entry (omega (arith, slice_get_within c.args.entries.now s entry there, c.loop-place-test.false)) there paired)) [
       | inl before ↦ inl (c.loop-symbol.invariant.marked s before)
       | inr other ↦ inr other
     ]

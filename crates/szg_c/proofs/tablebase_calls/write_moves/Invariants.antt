@@ -1,6 +1,0 @@
-use Rattle.std.proofs.Common.{◌≡◌, ◌++◌, drop, map, take}
-use Rattle.szg_c.specs.Tablebases.{raw_move}
-use Rattle.szg_c.proofs.tablebase_calls.write_moves.Given as goal
-
-abbrev pub invariant-loop-i : goal.invariant-loop-i
-invariant-loop-i l = l.moves ≡ map raw_move (take l.i l.ranked) ++ drop l.i l.fn.moves
