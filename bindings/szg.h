@@ -18,10 +18,9 @@
  * compiled, it isn't loaded, or prints so before main and ends the program with status 127. On Linux, blocks of 4 MB and more
  * are mappings of its own, with huge pages if the kernel has some.
  *
- * Stack: szg_tablebase_add and all calls on szg_folders use less than 60 KB, szg_check, szg_size, szg_values, szg_values_at,
- * szg_open, szg_open_front and szg_tablebase_moves less than 56 KB, szg_all less than 32 KB, szg_tablebase_wdl,
- * szg_tablebase_wdl_of_fens and szg_tablebase_dtz less than 24 KB, the other calls less than 8 KB. Whether it is there is not
- * checked.
+ * Stack: szg_check, szg_size, szg_values, szg_values_at, szg_open, szg_open_front, szg_tablebase_add, szg_tablebase_moves and
+ * all calls on szg_folders use less than 56 KB, szg_all less than 32 KB, szg_tablebase_wdl, szg_tablebase_wdl_of_fens and
+ * szg_tablebase_dtz less than 24 KB, the other calls less than 8 KB. Whether it is there is not checked.
  *
  * Mapped files: a file that is truncated must not be read by its map any more. A call that does is ended by the system with
  * SIGBUS, and so is the program. If others may truncate the file, read its bytes: szg_front_find says which. */

@@ -79,8 +79,8 @@ int main(int count, char **words) {
     want("by Fathom's interface", tb_init(paths) && TB_LARGEST == 3, true);
     pthread_attr_init(&small);
 #ifndef __SANITIZE_THREAD__
-    /* a call on folders uses less than 60 KB */
-    pthread_attr_setstacksize(&small, 68 << 10);
+    /* a call on folders uses less than 56 KB */
+    pthread_attr_setstacksize(&small, 64 << 10);
 #endif
     for (int i = 0; i < THREADS; i++) pthread_create(&threads[i], &small, run, &found[i]);
     for (int i = 0; i < THREADS; i++) {
