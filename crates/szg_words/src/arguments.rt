@@ -161,11 +161,9 @@ pub(crate) const SUMS: Argument = Argument {
 };
 
 pub(crate) const LOGS: Argument = Argument {
-    id: "resume",
-    value: Some("LOG"),
     action: ArgAction::Append,
     help: "Leave out files that are good by their last record in LOG (a report in tsv or json), and have{n}not changed since, unless --sums or --manifest is given; may be given several times",
-    ..OPTION
+    ..LOG
 };
 
 pub(crate) const MANIFEST: Argument = Argument {
@@ -176,10 +174,8 @@ pub(crate) const MANIFEST: Argument = Argument {
 };
 
 pub(crate) const FILES_SHARD: Argument = Argument {
-    id: "shard",
-    value: Some("K/N"),
     help: "Check only every N-th file, from the K-th on: runs with K from 1 to N share the files out",
-    ..OPTION
+    ..POSITIONS_SHARD
 };
 
 pub(crate) const REPORT: Argument = Argument {

@@ -94,10 +94,8 @@ fn check_names_files(words: &[&str]) -> bool {
     if words.iter().any(|word| matches!(*word, "wdl" | "dtz")) {
         return false;
     }
-    match words.iter().find(|word| !word.starts_with('-')) {
-        Some(word) => Material::parse(word).is_err(),
-        None => false,
-    }
+    let first = words.iter().find(|word| !word.starts_with('-'));
+    first.is_some_and(|word| Material::parse(word).is_err())
 }
 
 /// Whether a command line names files: a word that ends as a table's file does, an option that only files have, a dump's

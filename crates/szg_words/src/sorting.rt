@@ -17,13 +17,8 @@ impl<'a> SortedWords<'a> {
         alloc: Global,
         option: &str,
     ) -> Result<Vec<&'a str>, AllocError> {
-        let mut values = Vec::new(alloc);
-        'options: for (name, value) in &self.options {
-            if *name == option {
-                values.push(*value)?;
-            }
-        }
-        Ok(values)
+        let given = self.options.iter().filter(|(name, _)| *name == option);
+        given.map(|(_, value)| *value).collect(alloc)
     }
 }
 
@@ -77,9 +72,6 @@ fn option_in<'a>(
             _ => return None,
         },
     };
-    if options.iter().any(|name| *name == option) && !value.is_empty() {
-        Some((option, value, after))
-    } else {
-        None
-    }
+    let is_option = options.iter().any(|name| *name == option) && !value.is_empty();
+    is_option.then_some((option, value, after))
 }
