@@ -1,10 +1,6 @@
--- The words of an argument, and why those of a command make no job.
-use Rattle.std.proofs.Common.{◌≡◌, ℕ, List, [], true, false, map, Option, Some, None, option_map, Bor, refl}
+-- The words of an argument, and facts of a result.
+use Rattle.std.proofs.Common.{◌≡◌, ℕ, List, [], map, Option, Some, None, option_map, Bor, Result, Ok, Err, IfOk, IfErr, refl}
 use Rattle.std.specs.Prelude.{unwrap_or}
-use Rattle.clap.specs.declared.parser.matches.Found.{Found}
-use Rattle.szg_words.specs.Chosen.{IsWordsFault, has_numbers, is_number}
-use Rattle.szg_words.specs.declared.request.WordsFault.{WordsFault}
-use Rattle.szg_words.specs.declared.request.WordsFault.TheVariants.{Kind, Memory, Number, Shard, Unused}
 
 -- the texts of words that may be missing
 pub texts_or : (words : Option (Bor (List (Bor (List ℕ))))) (none : Bor (List (Bor (List ℕ)))) (texts : Option (List (List ℕ))) →
@@ -13,10 +9,11 @@ pub texts_or : (words : Option (Bor (List (Bor (List ℕ))))) (none : Bor (List 
 texts_or None none texts stated empty = rw (← stated, empty) refl
 texts_or (Some words) none texts stated empty = rw (← stated) refl
 
--- a number that is none is why
-pub number_is_none : (command : List ℕ) (found : Found) (fault : WordsFault) → is_number fault ≡ true → has_numbers command found ≡ false → IsWordsFault command found fault
-number_is_none command found (Number argument word) is none = none
-number_is_none command found (Unused argument) is none = absurd (cc is)
-number_is_none command found Kind is none = absurd (cc is)
-number_is_none command found (Shard word) is none = absurd (cc is)
-number_is_none command found Memory is none = absurd (cc is)
+-- what follows from a fact of a result holds of it
+pub if_ok_then : {A E : Type 0} {P Q : A → Type 0} (r : Result A E) → ((a : A) → P a → Q a) → IfOk r P → IfOk r Q
+if_ok_then (Ok a) f p = f a p
+if_ok_then (Err e) f p = p
+
+pub if_err_then : {A E : Type 0} {P Q : E → Type 0} (r : Result A E) → ((e : E) → P e → Q e) → IfErr r P → IfErr r Q
+if_err_then (Ok a) f p = p
+if_err_then (Err e) f p = f e p

@@ -3,8 +3,12 @@ use Rattle.std.specs.Prelude.{◌≡◌, ◌⊎◌, ℕ, Bool, true, false, ◌&
 use Rattle.std.specs.Str.{bytes_eq}
 use Rattle.clap.specs.Matches.{has_subcommand, matched_of, subcommand_name_of, first_value}
 use Rattle.clap.specs.Simple.{HasMatchesOf, app_of, subcommand_rows_of}
+use Rattle.clap.specs.Values.{kind_of}
 use Rattle.clap.specs.Walk.{rows_of}
 use Rattle.clap.specs.declared.builder.command.Command.{Command}
+use Rattle.clap.specs.declared.error.Error.{Error}
+use Rattle.clap.specs.declared.error.kind.ErrorKind.{ErrorKind}
+use Rattle.clap.specs.declared.error.kind.ErrorKind.TheVariants.{MissingRequiredArgument, OutOfMemory, ValueValidation}
 use Rattle.clap.specs.declared.parser.matches.ArgMatches.{ArgMatches}
 use Rattle.clap.specs.declared.parser.matches.Found.{Found}
 use Rattle.clap.specs.declared.parser.matches.ValueSource.{ValueSource}
@@ -16,8 +20,6 @@ use Rattle.szg_words.specs.Words.{is_word, number_from, parsed_side, word_of}
 use Rattle.szg_words.specs.declared.command_line.CommandForm.{CommandForm}
 use Rattle.szg_words.specs.declared.command_line.CommandForm.TheVariants.{Streams, Files}
 use Rattle.szg_words.specs.declared.file_words.FileJob.{FileJob}
-use Rattle.szg_words.specs.declared.request.WordsFault.{WordsFault}
-use Rattle.szg_words.specs.declared.request.WordsFault.TheVariants.{Kind, Memory, Number, Shard, Unused}
 use Rattle.szg_words.specs.declared.request.Task.{Task}
 
 -- ---- what is assumed of clap
@@ -64,6 +66,12 @@ has_table_numbers command found = (names_men command || is_some (parsed_action c
 abbrev pub has_numbers : List ℕ → Found → Bool
 has_numbers command found = if bytes_eq command (codes "build") then (is_small found || has_sizes found) else has_table_numbers command found
 
+-- ---- errors
+
+-- The error of words that are refused is of this kind, or memory for it was refused.
+abbrev pub IsErrorOf : ErrorKind → Error → Type 0
+IsErrorOf kind error = (kind_of error ≡ OutOfMemory) ⊎ (kind_of error ≡ kind)
+
 -- ---- the standard streams
 
 -- the program's name, where there is no word
@@ -106,18 +114,13 @@ pub record AsksForJob (finds : CommandForm → List (List ℕ) → ArgMatches �
 abbrev pub has_kind : Found → Bool
 has_kind found = is_some (named_as (first_value found (codes "name")) (kind_given found) (word_of found (codes "FILE")))
 
--- a word is none of its argument's numbers
-abbrev pub is_number : WordsFault → Bool
-is_number (Number argument word) = true
-is_number fault = false
-
--- Why the values that were found make no job.
-abbrev pub IsWordsFault : List ℕ → Found → WordsFault → Type 0
-IsWordsFault command found (Number argument word) = has_numbers command found ≡ false
-IsWordsFault command found (Unused argument) = has_unused found ≡ true
-IsWordsFault command found Kind = has_kind found ≡ false
-IsWordsFault command found (Shard word) = is_some (first_value found (codes "shard")) ≡ true
-IsWordsFault command found Memory = Unit {0}
+-- Why the values that were found make no job, by the error: memory was refused, a number is none, `check` has a word for a
+-- shard, or the file is of no kind.
+abbrev pub IsJobError : List ℕ → Found → Error → Type 0
+IsJobError command found error = (kind_of error ≡ OutOfMemory)
+    ⊎ ((kind_of error ≡ ValueValidation) × (has_numbers command found ≡ false))
+    ⊎ ((kind_of error ≡ ValueValidation) × (bytes_eq command (codes "check") ≡ true) × (is_some (first_value found (codes "shard")) ≡ true))
+    ⊎ ((kind_of error ≡ MissingRequiredArgument) × (has_kind found ≡ false))
 
 -- What is found names no command, or it has a number that is none or that the plan doesn't take, a file of no kind, or a
 -- word for a shard.

@@ -1,8 +1,8 @@
 //! Copies of tables into a folder: `szg copy [--sums LIST].. FILE.. FOLDER`.
 
 use crate::command_line::CommandForm;
-use crate::request::usage_error;
 use crate::sorting::sorted_words;
+use crate::usage::Usage;
 use clap::Error;
 use clap::error::ErrorKind;
 use std::alloc::{AllocError, Global};
@@ -36,15 +36,11 @@ pub fn copies_of<'a>(
     let are_copies = !files.is_empty()
         && named_by(folder).is_none()
         && files.iter().all(|file| named_by(file).is_some());
-    Ok(if are_copies {
-        Some(CopyWords {
-            lists,
-            files,
-            folder,
-        })
-    } else {
-        None
-    })
+    Ok(are_copies.then_some(CopyWords {
+        lists,
+        files,
+        folder,
+    }))
 }
 
 /// Returns the error of the first file whose name an earlier one has: its copy would replace the other's. None if there is
@@ -57,8 +53,12 @@ pub fn same_name_error(alloc: Global, files: &[&str]) -> Result<Option<Error>, A
             continue;
         }
         let message = format!(in alloc; "another file has the name of '{path}'")?;
-        let kind = ErrorKind::ArgumentConflict;
-        return Ok(Some(usage_error(alloc, "copy", CommandForm::Files, kind, message.as_str())?));
+        let usage = Usage {
+            alloc,
+            command: "copy",
+            form: CommandForm::Files,
+        };
+        return Ok(Some(usage.error(ErrorKind::ArgumentConflict, message.as_str())?));
     }
     Ok(None)
 }

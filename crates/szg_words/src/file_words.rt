@@ -1,21 +1,22 @@
 //! Command lines that name files.
-ghost use Rattle.std.specs.Prelude.{◌≡◌, ◌⊎◌, true, false, IfErr, IfOk, IfSome, codes, map, option_map};
+ghost use Rattle.std.specs.Prelude.{◌≡◌, ◌⊎◌, true, false, IfErr, IfOk, IfSome, codes, is_some, map, option_map};
 ghost use Rattle.std.specs.Str.{bytes_eq};
 ghost use Rattle.clap.specs.Matches.{first_value, found_of};
 ghost use Rattle.clap.specs.Values.{kind_of as kind_of_error};
 ghost use Rattle.clap.specs.declared.error.kind.ErrorKind.{ErrorKind};
 ghost use Rattle.szg_named.specs.Named.{name_given, named_as};
 ghost use Rattle.szg_words.specs.Requested.{parsed_report_format, words_of};
-ghost use Rattle.szg_words.specs.Chosen.{AsksForJob, AsksForNoJob, IsWordsFault};
+ghost use Rattle.szg_words.specs.Chosen.{AsksForJob, AsksForNoJob, IsErrorOf, IsJobError};
 ghost use Rattle.szg_words.specs.Jobs.{IsJobIn, IsShardIn, IsShardWord, kind_given};
 
 use crate::command_line::CommandForm;
 use crate::finding::Finder;
 use crate::numbers::number;
 use crate::request::{
-    Request, Task, WordsFault, is_given, kind_of, missing_command, plan_in, request_on,
-    unused_by_plan, words_error,
+    Request, Task, check_plan, is_given, kind_of, missing_command, plan_in, request_on,
 };
+use crate::usage::Usage;
+use clap::error::ErrorKind;
 use clap::{ArgMatches, Error};
 use std::alloc::{AllocError, Global};
 use szg_named::{FileShard, Naming, ReportFormat, named_as, named_by};
@@ -132,13 +133,13 @@ pub fn parse_files<'a, F: Finder>(
     let Some((command, chosen)) = matches.subcommand() else {
         return Err(missing_command(alloc, form)?);
     };
-    if let Some(argument) = unused_by_plan(chosen) {
-        return Err(words_error(alloc, command, form, WordsFault::Unused(argument))?);
-    }
-    match job_in(alloc, command, chosen) {
-        Ok(job) => Ok(job),
-        Err(fault) => Err(words_error(alloc, command, form, fault)?),
-    }
+    let usage = Usage {
+        alloc,
+        command,
+        form,
+    };
+    check_plan(usage, chosen)?;
+    job_in(usage, chosen)
 }
 
 /// The name and the kind that are given.
@@ -168,23 +169,18 @@ fn report_format_of(word: Option<&str>) -> ReportFormat
 }
 
 /// The job that a command and its words make.
-#[tactic(auto, using(crate::proofs::Words::number_is_none))]
-fn job_in<'a>(
-    alloc: Global,
-    command: &str,
-    chosen: &ArgMatches<'a>,
-) -> Result<FileJob<'a>, WordsFault<'a>>
-    ensures job { IfOk result (IsJobIn command.now (found_of chosen.now)) }
-    ensures none { IfErr result (IsWordsFault command.now (found_of chosen.now)) }
+fn job_in<'a>(usage: Usage<'_>, chosen: &ArgMatches<'a>) -> Result<FileJob<'a>, Error>
+    ensures job { IfOk result (IsJobIn usage.entry.command.now (found_of chosen.now)) }
+    ensures none { IfErr result (IsJobError usage.entry.command.now (found_of chosen.now)) }
 {
-    match command {
-        "check" => check_in(alloc, chosen),
+    match usage.command {
+        "check" => check_in(usage, chosen),
         "build" => Ok(FileJob::Run {
-            task: Task::Build(plan_in(chosen)?),
+            task: Task::Build(plan_in(usage, chosen)?),
             source: chosen.get_str("DUMP"),
             target: chosen.get_str("output"),
         }),
-        _ => table_job_in(command, chosen),
+        _ => table_job_in(usage, chosen),
     }
 }
 
@@ -207,18 +203,20 @@ fn parsed_shard(alloc: Global, word: &str) -> Result<Option<FileShard>, AllocErr
 }
 
 /// The shard that is given. None if there is none.
-fn shard_in<'a>(alloc: Global, chosen: &ArgMatches<'a>) -> Result<Option<FileShard>, WordsFault<'a>>
+fn shard_in(usage: Usage<'_>, chosen: &ArgMatches<'_>) -> Result<Option<FileShard>, Error>
     ensures shard { IfOk result (IsShardIn (first_value (found_of chosen.now) (codes "shard"))) }
-    ensures none { IfErr result (IsWordsFault (codes "check") (found_of chosen.now)) }
+    ensures none { IfErr result (λ error. IsErrorOf ErrorKind.ValueValidation error × (is_some (first_value (found_of chosen.now) (codes "shard")) ≡ true)) }
 {
     let Some(word) = chosen.get_str("shard") else {
         return Ok(None);
     };
-    match parsed_shard(alloc, word) {
-        Ok(Some(shard)) => Ok(Some(shard)),
-        Ok(None) => Err(WordsFault::Shard(word)),
-        Err(_) => Err(WordsFault::Memory),
+    if let Some(shard) = parsed_shard(usage.alloc, word)? {
+        return Ok(Some(shard));
     }
+    let message = format!(in usage.alloc;
+        "invalid value '{word}' for '--shard <K/N>': not a number K from 1 to N, a slash and N"
+    )?;
+    Err(usage.error(ErrorKind::ValueValidation, message.as_str())?)
 }
 
 /// The words of an argument that may have several.
@@ -226,48 +224,46 @@ fn texts_in<'a>(
     alloc: Global,
     chosen: &ArgMatches<'a>,
     id: &str,
-) -> Result<Vec<&'a str>, WordsFault<'a>>
-    ensures texts { IfOk result (λ texts. map (λ text. text.now) texts.items ≡ words_of (found_of chosen.now) id.now) }
-    ensures none { IfErr result (λ fault. fault ≡ WordsFault.Memory) }
+) -> Result<Vec<&'a str>, AllocError>
+    ensures { IfOk result (λ texts. map (λ text. text.now) texts.items ≡ words_of (found_of chosen.now) id.now) }
 {
     let found = chosen.get_strs(id).unwrap_or(&[]);
     let mut texts = Vec::new(alloc);
-    if texts.extend_from_slice(found).is_err() {
-        return Err(WordsFault::Memory);
-    }
+    texts.extend_from_slice(found)?;
     Ok(texts)
 }
 
 /// The files that are to be checked.
-fn check_in<'a>(alloc: Global, chosen: &ArgMatches<'a>) -> Result<FileJob<'a>, WordsFault<'a>>
+fn check_in<'a>(usage: Usage<'_>, chosen: &ArgMatches<'a>) -> Result<FileJob<'a>, Error>
     ensures job { IfOk result (IsJobIn (codes "check") (found_of chosen.now)) }
-    ensures none { IfErr result (IsWordsFault (codes "check") (found_of chosen.now)) }
+    ensures none { IfErr result (IsJobError (codes "check") (found_of chosen.now)) }
 {
     Ok(FileJob::Check(CheckJob {
         naming: naming_in(chosen),
         allow_trailing: is_given(chosen.get_str("allow-trailing"), "true"),
         format: report_format_of(chosen.get_str("format")),
         quiet: is_given(chosen.get_str("quiet"), "true"),
-        shard: shard_in(alloc, chosen)?,
-        lists: texts_in(alloc, chosen, "sums")?,
-        logs: texts_in(alloc, chosen, "resume")?,
+        shard: shard_in(usage, chosen)?,
+        lists: texts_in(usage.alloc, chosen, "sums")?,
+        logs: texts_in(usage.alloc, chosen, "resume")?,
         manifest: chosen.get_str("manifest"),
-        paths: texts_in(alloc, chosen, "FILE")?,
+        paths: texts_in(usage.alloc, chosen, "FILE")?,
     }))
 }
 
 /// The request on the table at a path.
-#[tactic(auto, using(crate::proofs::Words::number_is_none))]
-fn table_job_in<'a>(command: &str, chosen: &ArgMatches<'a>) -> Result<FileJob<'a>, WordsFault<'a>>
-    requires { bytes_eq command.now (codes "build") ≡ false }
-    ensures job { IfOk result (IsJobIn command.now (found_of chosen.now)) }
-    ensures none { IfErr result (IsWordsFault command.now (found_of chosen.now)) }
+fn table_job_in<'a>(usage: Usage<'_>, chosen: &ArgMatches<'a>) -> Result<FileJob<'a>, Error>
+    requires { bytes_eq usage.command.now (codes "build") ≡ false }
+    ensures job { IfOk result (IsJobIn usage.entry.command.now (found_of chosen.now)) }
+    ensures none { IfErr result (IsJobError usage.entry.command.now (found_of chosen.now)) }
 {
     let path = chosen.get_str("FILE").unwrap_or("");
     let Some((name, kind)) = named_as(naming_in(chosen), path) else {
-        return Err(WordsFault::Kind);
+        let message =
+            "the file's ending is neither .rtbw nor .rtbz: give its kind by '--kind <KIND>'";
+        return Err(usage.error(ErrorKind::MissingRequiredArgument, message)?);
     };
-    let request = request_on(command, chosen, name, kind)?;
+    let request = request_on(usage, chosen, name, kind)?;
     if request.action.is_look_up() && !is_given(chosen.get_str("verify"), "true") {
         return Ok(FileJob::LookUp {
             request,

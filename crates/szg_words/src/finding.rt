@@ -6,7 +6,7 @@ ghost use Rattle.clap.specs.declared.parser.matches.ArgMatches.{ArgMatches as Ma
 ghost use Rattle.szg_words.specs.declared.command_line.CommandForm.{CommandForm};
 
 use crate::command_line::{CommandForm, program};
-use crate::request::usage_error;
+use crate::usage::Usage;
 use clap::error::ErrorKind;
 use clap::{ArgMatches, Error};
 use std::alloc::{AllocError, Global};
@@ -78,7 +78,12 @@ fn with_usage(
         .and_then(|text| text.strip_suffix(HINT));
     match (words.get(1), message) {
         (Some(command), Some(message)) => {
-            usage_error(alloc, command, form, ErrorKind::InvalidValue, message)
+            let usage = Usage {
+                alloc,
+                command: *command,
+                form,
+            };
+            usage.error(ErrorKind::InvalidValue, message)
         }
         _ => Ok(error),
     }

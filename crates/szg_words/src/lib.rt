@@ -12,6 +12,7 @@ mod numbers;
 mod positions;
 mod request;
 mod sorting;
+mod usage;
 mod verification;
 
 pub use command_line::CommandForm;

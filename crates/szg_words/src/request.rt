@@ -1,15 +1,15 @@
-ghost use Rattle.std.specs.Prelude.{◌≡◌, ◌⊎◌, true, false, IfErr, IfOk, IsNone, MatchOption, Some, codes, map, option_map};
+ghost use Rattle.std.specs.Prelude.{◌≡◌, ◌⊎◌, true, false, IfErr, IfOk, IsNone, MatchOption, OnOk, Some, codes, map, option_map};
 ghost use Rattle.clap.specs.Matches.{first_value, found_of};
 ghost use Rattle.clap.specs.Values.{kind_of as kind_of_error};
 ghost use Rattle.szg_words.specs.Requested.{IsActionOf, IsActionOnMen, IsLookUp, IsPlanIn, IsTaskIn, action_of_men, parsed_action, names_men};
-ghost use Rattle.szg_words.specs.Chosen.{AsksFor, AsksForNone, is_number, line_of, has_numbers, has_sizes, has_table_numbers, has_unused, is_given as is_typed};
+ghost use Rattle.szg_words.specs.Chosen.{AsksFor, AsksForNone, IsErrorOf, line_of, has_numbers, has_sizes, has_table_numbers, has_unused, is_given as is_typed};
 ghost use Rattle.szg_words.specs.Words.{is_word, number_of_class, number_of_form, parsed_class, parsed_kind, parsed_mover, parsed_part, parsed_side};
 
 use crate::arguments::{Argument, BLOCK, FORM, INDEX, ROUNDS, SIDE, SPAN};
-use crate::command_line::{CommandForm, command_of, program};
+use crate::command_line::{CommandForm, program};
 use crate::finding::Finder;
 use crate::men::placement_in;
-use crate::numbers::number_of;
+use crate::usage::Usage;
 use clap::error::ErrorKind;
 use clap::parser::ValueSource;
 use clap::{ArgMatches, Error};
@@ -150,13 +150,13 @@ pub fn parse<'a, F: Finder>(
     let Some((command, chosen)) = matches.subcommand() else {
         return Err(missing_command(alloc, form)?);
     };
-    if let Some(argument) = unused_by_plan(chosen) {
-        return Err(words_error(alloc, command, form, WordsFault::Unused(argument))?);
-    }
-    match task_in(command, chosen) {
-        Ok(task) => Ok(task),
-        Err(fault) => Err(words_error(alloc, command, form, fault)?),
-    }
+    let usage = Usage {
+        alloc,
+        command,
+        form,
+    };
+    check_plan(usage, chosen)?;
+    task_in(usage, chosen)
 }
 
 /// The words, or the program's name if there is none.
@@ -169,68 +169,6 @@ fn line_of<'a>(words: &'a [&'a str]) -> &'a [&'a str]
 /// The error of words that have no command.
 pub(crate) fn missing_command(alloc: Global, form: CommandForm) -> Result<Error, AllocError> {
     program(alloc, form)?.error(ErrorKind::MissingSubcommand, "a command is missing")
-}
-
-/// Why the words of a command ask for nothing.
-#[derive(Clone, Copy)]
-pub enum WordsFault<'a> {
-    /// A word is none of its argument's numbers.
-    Number { argument: Argument, word: &'a str },
-    /// A small plan doesn't take this number.
-    Unused(Argument),
-    /// The file's ending names no kind, and none is given.
-    Kind,
-    /// A word is no shard.
-    Shard(&'a str),
-    /// A growth was refused.
-    Memory,
-}
-
-/// Creates the error of a command's words that ask for nothing.
-pub(crate) fn words_error(
-    alloc: Global,
-    command: &str,
-    form: CommandForm,
-    fault: WordsFault<'_>,
-) -> Result<Error, AllocError>
-    ensures { fault.entry ≡ WordsFault.Memory → IfOk result (λ error. ⊥) }
-{
-    let (kind, message) = match fault {
-        WordsFault::Number { argument, word } => {
-            let shown = argument.shown(alloc)?;
-            let message = format!(in alloc;
-                "invalid value '{word}' for '{shown}': not a number from {} to {}",
-                argument.least, argument.greatest
-            );
-            (ErrorKind::ValueValidation, message?)
-        }
-        WordsFault::Unused(argument) => {
-            let shown = argument.shown(alloc)?;
-            let message = format!(in alloc;
-                "the argument '--plan small' cannot be used with '{shown}'"
-            );
-            (ErrorKind::ArgumentConflict, message?)
-        }
-        WordsFault::Kind => {
-            let message =
-                "the file's ending is neither .rtbw nor .rtbz: give its kind by '--kind <KIND>'";
-            return usage_error(
-                alloc,
-                command,
-                form,
-                ErrorKind::MissingRequiredArgument,
-                message,
-            );
-        }
-        WordsFault::Shard(word) => {
-            let message = format!(in alloc;
-                "invalid value '{word}' for '--shard <K/N>': not a number K from 1 to N, a slash and N"
-            );
-            (ErrorKind::ValueValidation, message?)
-        }
-        WordsFault::Memory => return Err(AllocError),
-    };
-    usage_error(alloc, command, form, kind, message.as_str())
 }
 
 /// Whether there is this word.
@@ -254,7 +192,7 @@ fn is_typed(chosen: &ArgMatches<'_>, argument: &str) -> bool
 }
 
 /// Returns the first number of a fixed plan that is given with a small plan.
-pub(crate) fn unused_by_plan(chosen: &ArgMatches<'_>) -> Option<Argument>
+fn unused_by_plan(chosen: &ArgMatches<'_>) -> Option<Argument>
     ensures { MatchOption result (has_unused (found_of chosen.now) ≡ false) (λ argument. has_unused (found_of chosen.now) ≡ true) }
 {
     if !is_given(chosen.get_str("plan"), "small") {
@@ -272,68 +210,70 @@ pub(crate) fn unused_by_plan(chosen: &ArgMatches<'_>) -> Option<Argument>
     None
 }
 
-/// An error with the usage of a command.
-pub(crate) fn usage_error(
-    alloc: Global,
-    command: &str,
-    form: CommandForm,
-    kind: ErrorKind,
-    message: &str,
-) -> Result<Error, AllocError> {
-    let name = format!(in alloc; "szg {command}")?;
-    let mut command = command_of(alloc, command, form)?.bin_name(name.as_str())?;
-    command.error(kind, message)
+/// Checks that no number of a fixed plan is given with a small plan.
+pub(crate) fn check_plan(usage: Usage<'_>, chosen: &ArgMatches<'_>) -> Result<(), Error>
+    ensures used { OnOk result (has_unused (found_of chosen.now) ≡ false) }
+    ensures none { IfErr result (λ error. IsErrorOf ErrorKind.ArgumentConflict error × (has_unused (found_of chosen.now) ≡ true)) }
+{
+    let Some(argument) = unused_by_plan(chosen) else {
+        return Ok(());
+    };
+    let shown = argument.shown(usage.alloc)?;
+    let message = format!(in usage.alloc;
+        "the argument '--plan small' cannot be used with '{shown}'"
+    )?;
+    Err(usage.error(ErrorKind::ArgumentConflict, message.as_str())?)
 }
 
 /// The task that a command and its words make.
-fn task_in<'a>(command: &str, chosen: &ArgMatches<'a>) -> Result<Task<'a>, WordsFault<'a>>
-    ensures task { IfOk result (IsTaskIn command.now (found_of chosen.now)) }
-    ensures none { IfErr result (λ fault. (is_number fault ≡ true) × (has_numbers command.now (found_of chosen.now) ≡ false)) }
+fn task_in<'a>(usage: Usage<'_>, chosen: &ArgMatches<'a>) -> Result<Task<'a>, Error>
+    ensures task { IfOk result (IsTaskIn usage.entry.command.now (found_of chosen.now)) }
+    ensures none { IfErr result (λ error. IsErrorOf ErrorKind.ValueValidation error × (has_numbers usage.entry.command.now (found_of chosen.now) ≡ false)) }
 {
-    if command == "build" {
-        return Ok(Task::Build(plan_in(chosen)?));
+    if usage.command == "build" {
+        return Ok(Task::Build(plan_in(usage, chosen)?));
     }
     let name = chosen.get_str("NAME").unwrap_or("");
     let kind = kind_of(chosen.get_str("KIND"));
-    Ok(Task::OnTable(request_on(command, chosen, name, kind)?))
+    Ok(Task::OnTable(request_on(usage, chosen, name, kind)?))
 }
 
 /// Returns how the words ask to pack a table.
-pub fn plan_in<'a>(chosen: &ArgMatches<'a>) -> Result<BuildPlan, WordsFault<'a>>
+pub fn plan_in(usage: Usage<'_>, chosen: &ArgMatches<'_>) -> Result<BuildPlan, Error>
     ensures plan { IfOk result (IsPlanIn (found_of chosen.now)) }
-    ensures none { IfErr result (λ fault. (is_number fault ≡ true) × (is_word (first_value (found_of chosen.now) (codes "plan")) (codes "small") ≡ false) × (has_sizes (found_of chosen.now) ≡ false)) }
+    ensures none { IfErr result (λ error. IsErrorOf ErrorKind.ValueValidation error × (is_word (first_value (found_of chosen.now) (codes "plan")) (codes "small") ≡ false) × (has_sizes (found_of chosen.now) ≡ false)) }
 {
     if is_given(chosen.get_str("plan"), "small") {
         return Ok(BuildPlan::Small);
     }
     Ok(BuildPlan::Fixed {
-        block_bits: number_of(chosen, BLOCK)? as u8,
-        span_bits: number_of(chosen, SPAN)? as u8,
-        rounds: number_of(chosen, ROUNDS)? as u32,
+        block_bits: usage.number(chosen, BLOCK)? as u8,
+        span_bits: usage.number(chosen, SPAN)? as u8,
+        rounds: usage.number(chosen, ROUNDS)? as u32,
     })
 }
 
 /// What is asked of a table of this name and kind.
 pub(crate) fn request_on<'a>(
-    command: &str,
+    usage: Usage<'_>,
     chosen: &ArgMatches<'a>,
     name: &'a str,
     kind: Kind,
-) -> Result<Request<'a>, WordsFault<'a>>
+) -> Result<Request<'a>, Error>
     ensures name { IfOk result (λ request. request.name.now ≡ name.now) }
     ensures kind { IfOk result (λ request. request.kind ≡ kind) }
     ensures part { IfOk result (λ request. request.part ≡ parsed_part (first_value (found_of chosen.now) (codes "part"))) }
-    ensures side { IfOk result (λ request. parsed_side command.now (found_of chosen.now) ≡ Some request.side) }
-    ensures action { IfOk result (λ request. IsActionOf command.now (found_of chosen.now) request.action) }
-    ensures none { IfErr result (λ fault. (is_number fault ≡ true) × (has_table_numbers command.now (found_of chosen.now) ≡ false)) }
+    ensures side { IfOk result (λ request. parsed_side usage.entry.command.now (found_of chosen.now) ≡ Some request.side) }
+    ensures action { IfOk result (λ request. IsActionOf usage.entry.command.now (found_of chosen.now) request.action) }
+    ensures none { IfErr result (λ error. IsErrorOf ErrorKind.ValueValidation error × (has_table_numbers usage.entry.command.now (found_of chosen.now) ≡ false)) }
 {
-    let action = if names_men(command) {
-        action_on_men(command, chosen)
+    let action = if names_men(usage.command) {
+        action_on_men(usage.command, chosen)
     } else {
-        action_without_men(command, chosen)?
+        action_without_men(usage, chosen)?
     };
-    let side = match command {
-        "get" | "values" | "placement" => number_of(chosen, SIDE)? as u8,
+    let side = match usage.command {
+        "get" | "values" | "placement" => usage.number(chosen, SIDE)? as u8,
         _ => 0,
     };
     Ok(Request {
@@ -353,15 +293,15 @@ fn names_men(command: &str) -> bool
 }
 
 /// What a command asks of a table, where it names no men.
-fn action_without_men<'a>(command: &str, chosen: &ArgMatches<'a>) -> Result<Action, WordsFault<'a>>
-    ensures action { IfOk result (λ action. parsed_action command.now (found_of chosen.now) ≡ Some action) }
-    ensures none { IfErr result (λ fault. (is_number fault ≡ true) × IsNone (parsed_action command.now (found_of chosen.now))) }
+fn action_without_men(usage: Usage<'_>, chosen: &ArgMatches<'_>) -> Result<Action, Error>
+    ensures action { IfOk result (λ action. parsed_action usage.entry.command.now (found_of chosen.now) ≡ Some action) }
+    ensures none { IfErr result (λ error. IsErrorOf ErrorKind.ValueValidation error × IsNone (parsed_action usage.entry.command.now (found_of chosen.now))) }
 {
-    Ok(match command {
+    Ok(match usage.command {
         "check" => Action::Check,
         "show" => Action::Show,
         "get" => {
-            let index = number_of(chosen, INDEX)?;
+            let index = usage.number(chosen, INDEX)?;
             if is_given(chosen.get_str("steps"), "true") {
                 Action::GetCounted(index)
             } else {
@@ -369,9 +309,9 @@ fn action_without_men<'a>(command: &str, chosen: &ArgMatches<'a>) -> Result<Acti
             }
         }
         "values" => Action::Values,
-        "placement" => Action::Placement(number_of(chosen, INDEX)?),
+        "placement" => Action::Placement(usage.number(chosen, INDEX)?),
         "dump" => {
-            let form = if number_of(chosen, FORM)? == 1 {
+            let form = if usage.number(chosen, FORM)? == 1 {
                 DumpForm::Values
             } else {
                 DumpForm::Runs
