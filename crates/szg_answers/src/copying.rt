@@ -1,5 +1,5 @@
 //! Copies of tables into a folder: `szg copy [--sums LIST].. FILE.. FOLDER`.
-ghost use Rattle.std.specs.Prelude.{◌≡◌, ℕ, List, IfOk};
+ghost use Rattle.std.specs.Prelude.{◌≡◌, ℕ, List, IfOk, IfSome};
 ghost use Rattle.sha2.specs.Sha256.{sha256};
 ghost use Rattle.szg_files.specs.Draft.{draft_target, published_target, published_text, text_of};
 ghost use Rattle.szg_io.specs.Moved.{Gives};
@@ -17,9 +17,8 @@ use szg_archive::{
     CheckCounts, CheckOptions, CheckReport, Due, FileVerdict, check_path, due_of, read_lists,
     summary_line, verdict_line,
 };
-use szg_build::StreamFault;
 use szg_files::{Draft, FileFault, FileSystem, Lock, Published, Reasons};
-use szg_io::{Input, Output, give_whole, take_whole};
+use szg_io::{DeviceFault, Input, Output, give_whole, take_whole};
 use szg_sums::Sums;
 use szg_words::{CopyWords, same_name_error};
 
@@ -33,26 +32,28 @@ pub struct Copied<'a> {
     copy: Option<Published<'a>>,
 }
 
-/// Copies what an input has left to an output, and returns its SHA-256 digest. Errors: `Input` or `Output`, which failed.
-fn copy_bytes<I: Input, W: Output>(input: &mut I, output: &mut W) -> Result<[u8; 32], StreamFault>
-    ensures { IfOk result (λ digest. (text : List ℕ) × Gives W.Output output.old output.new text 0 × (digest ≡ sha256 text)) }
+/// Copies what an input has left to an output, and returns its SHA-256 digest. None if the output failed. Errors: the input
+/// failed.
+fn copy_bytes<I: Input, W: Output>(
+    input: &mut I,
+    output: &mut W,
+) -> Result<Option<[u8; 32]>, DeviceFault>
+    ensures { IfOk result (λ copied. IfSome copied (λ digest. (text : List ℕ) × Gives W.Output output.old output.new text 0 × (digest ≡ sha256 text))) }
 {
     let mut hasher = Sha256::new();
     let mut chunk = [0; 16384];
     'chunks: for _ in 0..u64::MAX {
-        let Ok(count) = take_whole(input, &mut chunk) else {
-            return Err(StreamFault::Input);
-        };
+        let count = take_whole(input, &mut chunk)?;
         let bytes = &chunk[..count];
         hasher.update(bytes);
         if give_whole(output, bytes).is_err() {
-            return Err(StreamFault::Output);
+            return Ok(None);
         }
         if count < chunk.len() {
-            return Ok(hasher.finalize());
+            return Ok(Some(hasher.finalize()));
         }
     }
-    Err(StreamFault::Input)
+    Err(DeviceFault)
 }
 
 /// Copies the file at `path`, which was checked and has this digest, to `target`: with its mode and time of last change,
@@ -84,18 +85,18 @@ where
         fault,
     })?;
     let (path, fault) = match copy_bytes(&mut file, &mut draft.file) {
-        Ok(found) if found == *digest => match published_like(draft, &like) {
+        Ok(Some(found)) if found == *digest => match published_like(draft, &like) {
             Ok(copy) => return Ok(copy),
             Err(fault) => (target, fault),
         },
-        Err(StreamFault::Output) => (target, FileFault::of(draft.abandon())),
-        Err(StreamFault::Input) => {
-            draft.discard();
-            (path, FileFault::of(file.reason()))
-        }
-        _ => {
+        Ok(Some(_)) => {
             draft.discard();
             (path, FileFault::System(ErrorKind::InvalidData.into()))
+        }
+        Ok(None) => (target, FileFault::of(draft.abandon())),
+        Err(DeviceFault) => {
+            draft.discard();
+            (path, FileFault::of(file.reason()))
         }
     };
     Err(FileFailure { path, fault })
