@@ -23,7 +23,7 @@ use crate::saying::{say, say_line};
 use clap::Error;
 use clap::error::ErrorKind;
 use std::alloc::Global;
-use szg_build::{StreamFault, Unwatched, Watcher, dump_table};
+use szg_build::{Unwatched, Watcher, dump_table};
 use szg_file::{ReadFault, Table, file_len, read, write};
 use szg_io::{Input, Output};
 use szg_values::Material;
@@ -193,13 +193,9 @@ fn answer_request<W: Output>(
         ),
         Action::Values => write_all_values(alloc, table, request, writer),
         Action::Copy => write(table, writer).map_err(|_| Stop::Device),
-        Action::Dump(form) => match dump_table(alloc, table, form.number(), writer) {
-            Ok(()) => Ok(()),
-            Err(StreamFault::Output) => Err(Stop::Device),
-            Err(StreamFault::Memory) => Err(Stop::Memory),
-            Err(StreamFault::Changed) => unreachable!(),
-            Err(StreamFault::Input) => unreachable!(),
-        },
+        Action::Dump(form) => {
+            dump_table(alloc, table, form.number(), writer)?.map_err(|_| Stop::Device)
+        }
         Action::Index(placement) => say_line(writer, index_line(alloc, table.index(), placement)),
         Action::Probe(placement, class) => say_line(
             writer,

@@ -1,6 +1,6 @@
 //! Values that are written while a file is read: each of one part and side on a line, or all of them as a dump.
 
-ghost use Rattle.std.specs.Prelude.{◌≡◌, ℕ, List, [], ◌++◌, flat_map, replicate, None, Some, OnOk, OnErr, Err, IfOk, IsErrOf, true};
+ghost use Rattle.std.specs.Prelude.{◌≡◌, ℕ, List, [], ◌++◌, flat_map, replicate, None, Some, OnOk, OnErr, Ok, Err, IfOk, IsErrOf, true};
 ghost use Rattle.szg_io.specs.Device.{HasFailed};
 ghost use Rattle.szg_io.specs.Moved.{Gives, Takes};
 ghost use Rattle.szg_values.specs.Material.{IsMaterial, name_of};
@@ -19,7 +19,7 @@ use crate::saying::say;
 use itoa::Buffer;
 use std::alloc::{AllocError, Global};
 use std::io::{Error, ErrorKind};
-use szg_build::{StreamFault, stream_dump};
+use szg_build::stream_dump;
 use szg_file::{NoSink, ReadFault, Scanned, ValueSink, scan};
 use szg_files::{FileFault, FileSystem, Reasons};
 use szg_io::{DeviceFault, Input, Output};
@@ -175,66 +175,62 @@ fn read_listed<F: Input>(alloc: Global, request: &Request, file: &mut F) -> Resu
 }
 
 /// Writes each value of the request's part and side on a line, a block's values as soon as the block was read and
-/// checked.
+/// checked. False if the table has no such part and side. Errors: as `scan`; the inner one if the writer failed.
 fn write_lines<F: Input, W: Output>(
     alloc: Global,
     request: &Request,
+    material: Material,
     file: &mut F,
     writer: &mut W,
-) -> Result<(), StreamFault>
+) -> Result<Result<bool, DeviceFault>, ReadFault>
     requires values { request.now.action ≡ Action.Values }
     requires first { F.moved file.old ≡ [] }
-    ensures stated { OnOk result (IsAnswered F.Input W.Output request.now file.old file.new writer.old writer.new) }
+    requires material { IsMaterial material }
+    requires name { name_of material ≡ request.now.name.now }
+    ensures stated { (result ≡ Ok (Ok true)) → IsAnswered F.Input W.Output request.now file.old file.new writer.old writer.new }
 {
-    let Ok(material) = Material::parse(request.name) else {
-        return Err(StreamFault::Changed);
-    };
     let mut sink = LineSink {
         part: request.part,
         side: request.side,
         text: Vec::new(alloc),
         failed: false,
     };
-    match scan(alloc, material, request.kind, file, &mut sink, writer) {
-        Ok(scanned) => {
-            let Some(_) = scanned.index.size(request.part, request.side) else {
-                return Err(StreamFault::Changed);
-            };
-            match say(writer, &sink.text) {
-                Ok(()) => Ok(()),
-                Err(_) => Err(StreamFault::Output),
-            }
-        }
-        Err(ReadFault::Refused { .. }) => Err(StreamFault::Changed),
-        Err(ReadFault::Device) => Err(StreamFault::Input),
-        Err(ReadFault::Memory) if sink.failed => Err(StreamFault::Output),
-        Err(ReadFault::Memory) => Err(StreamFault::Memory),
+    let scanned = match scan(alloc, material, request.kind, file, &mut sink, writer) {
+        Ok(scanned) => scanned,
+        // the sink refuses values after a failed write, and `scan` then returns `Memory`
+        Err(ReadFault::Memory) if sink.failed => return Ok(Err(DeviceFault)),
+        Err(fault) => return Err(fault),
+    };
+    let Some(_) = scanned.index.size(request.part, request.side) else {
+        return Ok(Ok(false));
+    };
+    match say(writer, &sink.text) {
+        Ok(()) => Ok(Ok(true)),
+        Err(_) => Ok(Err(DeviceFault)),
     }
 }
 
 /// Writes the values of the request's part and side, or the dump of the table, whose file was checked, a block's values as
-/// soon as the block was read and checked.
+/// soon as the block was read and checked. False if the file has another table. Errors: as `scan`; the inner one if the
+/// writer failed.
 fn write_listed<F: Input, W: Output>(
     alloc: Global,
     request: &Request,
     checked: &Scanned,
     file: &mut F,
     writer: &mut W,
-) -> Result<(), StreamFault>
+) -> Result<Result<bool, DeviceFault>, ReadFault>
     requires listed { IsListed request.now.action }
     requires first { F.moved file.old ≡ [] }
     requires material { IsMaterial checked.now.index.material }
     requires name { name_of checked.now.index.material ≡ request.now.name.now }
     requires kind { checked.now.index.kind ≡ request.now.kind }
-    ensures stated { OnOk result (IsAnswered F.Input W.Output request.now file.old file.new writer.old writer.new) }
+    ensures stated { (result ≡ Ok (Ok true)) → IsAnswered F.Input W.Output request.now file.old file.new writer.old writer.new }
 {
+    let Scanned { index, last, .. } = checked;
     match &request.action {
-        Action::Values => write_lines(alloc, request, file, writer),
-        Action::Dump(form) => {
-            let Scanned { index, last, .. } = checked;
-            stream_dump(alloc, index, last, form.number(), file, writer)?;
-            Ok(())
-        }
+        Action::Values => write_lines(alloc, request, index.material().copy(), file, writer),
+        Action::Dump(form) => stream_dump(alloc, index, last, form.number(), file, writer),
         _ => unreachable!(),
     }
 }
@@ -282,12 +278,12 @@ pub fn stream_from<'a, S: FileSystem, W: Output>(
         Err(fault) => return Err(failed(source, fault)),
     };
     match write_listed(alloc, request, &checked, &mut again, writer) {
-        Ok(()) => Ok(()),
-        Err(StreamFault::Changed) => {
+        Ok(Ok(true)) => Ok(()),
+        Ok(Ok(false)) | Err(ReadFault::Refused { .. }) => {
             let changed = FileFault::System(ErrorKind::InvalidData.into());
             Err(failed(source, changed))
         }
-        Err(StreamFault::Input | StreamFault::Output) => Err(device_stop(source, again.reason())),
-        Err(StreamFault::Memory) => Err(Stop::Memory),
+        Ok(Err(DeviceFault)) | Err(ReadFault::Device) => Err(device_stop(source, again.reason())),
+        Err(ReadFault::Memory) => Err(Stop::Memory),
     }
 }

@@ -27,7 +27,7 @@ use szg_values::{Kind, Material};
 pub use table::{build, build_as};
 use thiserror::Error;
 pub use writing::block_values::BlockValues;
-pub use writing::dumping::{StreamFault, stream_dump};
+pub use writing::dumping::stream_dump;
 pub use writing::stored::{StoredValues, stored_values};
 pub use writing::table_dump::dump_table;
 pub use writing::write_dump;

@@ -16,12 +16,12 @@ returns-in-Err-Refused-clause-refused g c = λ refusal is. (
 )
 
 -- the file was opened twice
-pub returns-in-Ok-write_listed-clause-stated : goal.returns-in-Ok-write_listed-clause-stated
-returns-in-Ok-write_listed-clause-stated g c =
+pub returns-in-Ok-Ok-true-clause-stated : goal.returns-in-Ok-Ok-true-clause-stated
+returns-in-Ok-Ok-true-clause-stated g c =
     carried_on g.S.FileSystem.content g.S.FileSystem.failures g.S.File.Input g.W.Output (OnTable c.args.request.now) c.args.source.now c.args.system.now c.open.new.self c.open-2.new.self c.args.writer.now c.write_listed.new.writer
     c.in-Ok.ensures.content c.in-Ok.ensures.quiet (
       c.in-Ok-open.again,
       c.write_listed.new.file,
       record { unread = c.in-Ok-open.ensures.unread; coming = c.in-Ok-open.ensures.coming; kept = c.in-Ok-open.ensures.content; quiet = c.in-Ok-open.ensures.quiet },
-      c.in-Ok-write_listed.ensures.stated,
+      c.write_listed.ensures.stated (cc),
     )

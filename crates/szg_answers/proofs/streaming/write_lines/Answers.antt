@@ -12,19 +12,19 @@ pub returns-in-Ok-say : goal.returns-in-Ok-say
 returns-in-Ok-say g c =
     let part = c.args.request.now.part in
     let side = c.args.request.now.side in
-    let read = c.in-Ok-scan.ensures.scanned in
+    let read = c.in-Ok.ensures.scanned in
     let t = read.table in
     let values : List ℕ = wanted_of (only part side) t.contents in
     let lines = accepted_lines g.W.Output values _ c.scan.new.sink c.args.writer.now c.scan.new.out read.accepted in
-    let there = sym c.in-Some.is ∙ size_read c.in-Ok-scan.scanned.index t c.size.result part side read.index_is read.read.table.accepted c.size.ensures in
+    let there = sym c.in-Some.is ∙ size_read c.in-Ok.scanned.index t c.size.result part side read.index_is read.read.table.accepted c.size.ensures in
     let text : List ℕ = lines.0 ++ c.deref.result.now in
     let stated : text ≡ flat_map number_line values =
     ap (λ (z : List ℕ). lines.0 ++ z) c.deref.ensures.value ∙ lines.2 ∙ ap (λ (z : List ℕ). z ++ flat_map number_line values) c.new.ensures.items in
     record {
-      stated = record {
+      stated = λ is. record {
         table = t;
-        queried = is_table_of c.args.request.now c.in-Ok.material t c.in-Ok.ensures.named.0 c.in-Ok.ensures.named.1 read.read.table;
-        taken = file_taken g.F.Input c.in-Ok.material c.args.request.now.kind c.args.file.now c.scan.new.input read.table read.read;
+        queried = is_table_of c.args.request.now c.args.material t c.requires.material c.requires.name read.read.table;
+        taken = file_taken g.F.Input c.args.material c.args.request.now.kind c.args.file.now c.scan.new.input read.table read.read;
         text = text;
         answers = subst (λ (a : Action). IsAnswer a part side t text) (sym c.requires.values) (lines_of_part t.contents part side _ text there stated);
         given = Gives-on lines.0 c.deref.result.now 0 lines.1 c.in-Ok-say.ensures.given;

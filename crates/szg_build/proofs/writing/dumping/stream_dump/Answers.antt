@@ -16,18 +16,18 @@ same_bytes : (is_same : Bool) → false ≡ not is_same → is_same ≡ true
 same_bytes true e = refl
 same_bytes false e = absurd cc
 
-pub returns-clause-dumped : goal.returns-clause-dumped
-returns-clause-dumped g c =
+pub returns-in-Ok-end_dump-clause-dumped : goal.returns-in-Ok-end_dump-clause-dumped
+returns-in-Ok-end_dump-clause-dumped g c = λ is.
     let x : Index = c.args.index.now in
-    let sink : DumpSink = c.in_ok-sink.sink in
+    let sink : DumpSink = c.in-Ok.sink in
     let material : c.copy-material.result ≡ x.material = c.copy-material.ensures ∙ c.material.ensures in
     let kind : c.kind.result ≡ x.kind = c.kind.ensures in
-    let read = c.in-Ok.ensures.scanned in
+    let read = c.in-Ok-scan.ensures.scanned in
     let t = read.table in
     let is_valid = read.read.table in
     let same = c.if-not-has_same.ensures.0 refl in
-    let last : c.in-Ok.scanned.last ≡ c.args.last.now =
-    (bytes_eq-Decides c.in-Ok.scanned.last c.args.last.now).0 (same_bytes (bytes_eq c.in-Ok.scanned.last c.args.last.now) c.if-ne.ensures) in
+    let last : c.in-Ok-scan.scanned.last ≡ c.args.last.now =
+    (bytes_eq-Decides c.in-Ok-scan.scanned.last c.args.last.now).0 (same_bytes (bytes_eq c.in-Ok-scan.scanned.last c.args.last.now) c.if-ne.ensures) in
     let is : x ≡ index_of t.contents =
     same_index x (index_of t.contents) (sym (is_valid.material_is ∙ material)) (sym (is_valid.kind_is ∙ kind))
     (sym same.0 ∙ ap (λ (y : Index). y.parts) read.index_is)
@@ -42,5 +42,5 @@ returns-clause-dumped g c =
       own_dump t.contents,
       own_dump_is t,
       streamed_text g.W.Output c.args.form x c.args.last.now t sink c.scan.new.sink c.args.output.now c.begin_dump.new.output c.scan.new.out c.end_dump.new.output
-          c.in_ok-sink.ensures.index c.in_ok-sink.ensures.begun c.in_ok-sink.ensures.given goes c.in_ok-end_dump.ensures.given is ends is_valid.accepted,
+          c.in-Ok.ensures.index c.in-Ok.ensures.begun c.in-Ok.ensures.given goes c.in-Ok-end_dump.ensures.given is ends is_valid.accepted,
     )

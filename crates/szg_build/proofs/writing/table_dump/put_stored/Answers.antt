@@ -10,5 +10,5 @@ each-preserved g c =
     record {
       done = done ++ here;
       whole = blocks_more done here c.each.blocks.values c.decode_next.new.self.values c.in-Blocks.blocks.values c.each.invariant.whole (c.in_ok-decode_next-in-Blocks.ensures.values c.if-branch.true);
-      goes = goes_then done here c.each.invariant.goes (goes_as c.deref.result.now here c.deref.ensures.value c.in_ok-add_values-in-Blocks.ensures.goes);
+      goes = goes_then done here c.each.invariant.goes (goes_as c.deref.result.now here c.deref.ensures.value c.in-Ok.ensures.goes);
     }

@@ -1,14 +1,13 @@
 use Rattle.std.proofs.Common.{◌≡◌, ◌+◌, ◌<◌, suc, ℕ, List, ◌++◌, drop, flat_map, length, take, ap, sym, ◌∙◌, arith, Option, Some, None}
 use Rattle.std.specs.Prelude.{IsSomeAnd}
 use Rattle.std.proofs.lemmas.List.{take_all}
-use Rattle.std.proofs.lemmas.Result.{err_from_is_err_and}
+use Rattle.std.proofs.lemmas.Result.{IfOk-at_ok, err_from_is_err_and}
 use Rattle.szg_values.specs.declared.Kind.{Kind}
 use Rattle.szg_file.specs.Contents.{Slot, Subtable}
 use Rattle.szg_file.specs.Values.{values_of}
 use Rattle.szg_build.specs.Built.{subtables_in}
 use Rattle.szg_build.specs.Stored.{shown_values}
 use Rattle.szg_build.proofs.Builders.PlaceLaws.{place_at, place_count}
-use Rattle.szg_build.proofs.Readers.ReadingLaws.{same_error}
 use Rattle.szg_build.proofs.Writers.StreamSteps.{goes_as, goes_none, goes_then}
 use Rattle.szg_build.proofs.Writers.TableDumps.{values_begun, values_more}
 use Rattle.szg_build.proofs.writing.table_dump.put_subtables.Goals as goal
@@ -41,24 +40,24 @@ places-preserved g c =
     let before = flat_map (values_of t.kind) (take i (subtables_in t)) in
     goes_as (before ++ here) (flat_map (values_of t.kind) (take (i + 1) (subtables_in t)))
     (ap (λ (z : List ℕ). before ++ z) stated ∙ values_more (values_of t.kind) (subtables_in t) i below)
-    (goes_then before here c.places.invariant c.in_ok-put_stored.ensures.goes)
+    (goes_then before here c.places.invariant (IfOk-at_ok _ c.in-Ok.is c.in_ok-put_stored.ensures.goes))
 
 pub returns-in_err-put_stored-clause-memory : goal.returns-in_err-put_stored-clause-memory
 returns-in_err-put_stored-clause-memory g c =
-    let p = err_from_is_err_and c.from_residual.result c.from_residual.ensures.1 in
     let t = c.args.table.now.contents in
     let i = c.places.place-index in
     let at = place_at t c.table_subtable_ids-place-items.result.now i (0, 0) c.table_subtable_ids-place-items.ensures c.places-test.true in
     let below : i < length (subtables_in t) = omega (arith, place_count t c.table_subtable_ids-place-items.result.now c.table_subtable_ids-place-items.ensures, c.places-test.true) in
     let stated = parsed_values t.kind (shown_values c.in-Some.stored) at c.in-Some.ensures in
     let before = flat_map (values_of t.kind) (take i (subtables_in t)) in
-    rw (p.1, p.2) (λ e.
-    let begun = c.in_err-put_stored.ensures.memory (same_error e) in (
+    let p = err_from_is_err_and c.from_residual.result c.from_residual.ensures.1 in
+    let begun = c.in_err-put_stored.ensures.memory in
+    rw (p.1) (
       before ++ begun.0,
       begun.1 ++ flat_map (values_of t.kind) (drop (suc i) (subtables_in t)),
       values_begun (values_of t.kind) (subtables_in t) i begun.0 begun.1 below (begun.2 ∙ stated),
       goes_then before begun.0 c.places.invariant begun.3,
-    ))
+    )
 
 pub returns-clause-goes : goal.returns-clause-goes
 returns-clause-goes g c =
