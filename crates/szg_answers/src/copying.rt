@@ -18,7 +18,7 @@ use szg_archive::{
     summary_line, verdict_line,
 };
 use szg_files::{Draft, FileFault, FileSystem, Lock, Published, Reasons};
-use szg_io::{DeviceFault, Input, Output, give_whole, take_whole};
+use szg_io::{Input, IoFault, Output, give_whole, take_whole};
 use szg_sums::Sums;
 use szg_words::{CopyWords, same_name_error};
 
@@ -37,7 +37,7 @@ pub struct Copied<'a> {
 fn copy_bytes<I: Input, W: Output>(
     input: &mut I,
     output: &mut W,
-) -> Result<Option<[u8; 32]>, DeviceFault>
+) -> Result<Option<[u8; 32]>, IoFault>
     ensures { IfOk result (λ copied. IfSome copied (λ digest. (text : List ℕ) × Gives W.Output output.old output.new text 0 × (digest ≡ sha256 text))) }
 {
     let mut hasher = Sha256::new();
@@ -53,7 +53,7 @@ fn copy_bytes<I: Input, W: Output>(
             return Ok(Some(hasher.finalize()));
         }
     }
-    Err(DeviceFault)
+    Err(IoFault::Failed)
 }
 
 /// Copies the file at `path`, which was checked and has this digest, to `target`: with its mode and time of last change,
@@ -94,7 +94,7 @@ where
             (path, FileFault::System(ErrorKind::InvalidData.into()))
         }
         Ok(None) => (target, FileFault::of(draft.abandon())),
-        Err(DeviceFault) => {
+        Err(_) => {
             draft.discard();
             (path, FileFault::of(file.reason()))
         }

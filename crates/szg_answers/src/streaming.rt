@@ -22,7 +22,7 @@ use std::io::{Error, ErrorKind};
 use szg_build::stream_dump;
 use szg_file::{NoSink, ReadFault, Scanned, ValueSink, scan};
 use szg_files::{FileFault, FileSystem, Reasons};
-use szg_io::{DeviceFault, Input, Output};
+use szg_io::{Input, IoFault, Output};
 use szg_values::Material;
 use szg_words::{Action, Request, Task};
 
@@ -120,16 +120,16 @@ impl<W: Output> ValueSink<W> for LineSink {
         part == self.part && side == self.side
     }
 
-    fn put(&mut self, values: &[u16], out: &mut W) -> Result<(), DeviceFault> {
+    fn put(&mut self, values: &[u16], out: &mut W) -> Result<(), IoFault> {
         let added = add_lines(&mut self.text, values, out);
         self.failed = matches!(added, Err(Stop::Device));
-        added.map_err(|_| DeviceFault)
+        added.map_err(|_| IoFault::Failed)
     }
 
-    fn put_same(&mut self, value: u16, count: u64, out: &mut W) -> Result<(), DeviceFault> {
+    fn put_same(&mut self, value: u16, count: u64, out: &mut W) -> Result<(), IoFault> {
         let added = add_same(&mut self.text, value, count, out);
         self.failed = matches!(added, Err(Stop::Device));
-        added.map_err(|_| DeviceFault)
+        added.map_err(|_| IoFault::Failed)
     }
 }
 
@@ -182,7 +182,7 @@ fn write_lines<F: Input, W: Output>(
     material: Material,
     file: &mut F,
     writer: &mut W,
-) -> Result<Result<bool, DeviceFault>, ReadFault>
+) -> Result<Result<bool, IoFault>, ReadFault>
     requires values { request.now.action ≡ Action.Values }
     requires first { F.moved file.old ≡ [] }
     requires material { IsMaterial material }
@@ -198,7 +198,7 @@ fn write_lines<F: Input, W: Output>(
     let scanned = match scan(alloc, material, request.kind, file, &mut sink, writer) {
         Ok(scanned) => scanned,
         // the sink refuses values after a failed write, and `scan` then returns `Memory`
-        Err(ReadFault::Memory) if sink.failed => return Ok(Err(DeviceFault)),
+        Err(ReadFault::Memory) if sink.failed => return Ok(Err(IoFault::Failed)),
         Err(fault) => return Err(fault),
     };
     let Some(_) = scanned.index.size(request.part, request.side) else {
@@ -206,7 +206,7 @@ fn write_lines<F: Input, W: Output>(
     };
     match say(writer, &sink.text) {
         Ok(()) => Ok(Ok(true)),
-        Err(_) => Ok(Err(DeviceFault)),
+        Err(_) => Ok(Err(IoFault::Failed)),
     }
 }
 
@@ -219,7 +219,7 @@ fn write_listed<F: Input, W: Output>(
     checked: &Scanned,
     file: &mut F,
     writer: &mut W,
-) -> Result<Result<bool, DeviceFault>, ReadFault>
+) -> Result<Result<bool, IoFault>, ReadFault>
     requires listed { IsListed request.now.action }
     requires first { F.moved file.old ≡ [] }
     requires material { IsMaterial checked.now.index.material }
@@ -283,7 +283,7 @@ pub fn stream_from<'a, S: FileSystem, W: Output>(
             let changed = FileFault::System(ErrorKind::InvalidData.into());
             Err(failed(source, changed))
         }
-        Ok(Err(DeviceFault)) | Err(ReadFault::Device) => Err(device_stop(source, again.reason())),
+        Ok(Err(_)) | Err(ReadFault::Device) => Err(device_stop(source, again.reason())),
         Err(ReadFault::Memory) => Err(Stop::Memory),
     }
 }

@@ -11,7 +11,7 @@ use crate::hashed::Hashed;
 use std::alloc::{AllocError, Global};
 use szg_file::{NoSink, ReadFault, scan};
 use szg_files::{FileFault, FileSystem, Reasons};
-use szg_io::{DeviceFault, Input, take_whole};
+use szg_io::{Input, IoFault, take_whole};
 use szg_named::{Naming, named_as};
 use szg_sums::{Hasher, Md5, Sha1, Sha256, Sha512, Sum};
 use szg_values::{Kind, Material};
@@ -48,7 +48,7 @@ fn is_table(verdict: &FileVerdict) -> bool
 }
 
 /// Reads an input on to its end.
-fn read_on<F: Input>(input: &mut F) -> Result<(), DeviceFault>
+fn read_on<F: Input>(input: &mut F) -> Result<(), IoFault>
     ensures end { OnOk result (IsAtEnd (F.coming input.new)) }
     ensures rest { (rest : List ℕ) × (F.moved input.new ≡ F.moved input.old ++ rest) }
     ensures failed { OnErr result (HasFailed (F.failures input.old) (F.failures input.new) (F.interrupted input.new) ⊎ (2 ^ 64 ≤ length (F.moved input.new))) }
@@ -61,7 +61,7 @@ fn read_on<F: Input>(input: &mut F) -> Result<(), DeviceFault>
         }
         left -= 1;
     }
-    Err(DeviceFault)
+    Err(IoFault::Failed)
 }
 
 /// An input that was read for a check, and the verdict on it.

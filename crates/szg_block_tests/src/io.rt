@@ -6,8 +6,7 @@ use std::alloc::Global;
 use std::io::{self, Error, ErrorKind, Read, Write};
 use std::process::Abort;
 use szg_io::{
-    Bytes, Counters, Cut, DeviceFault, Input, IoFault, Output, ReadAhead, Std, give_whole,
-    take_whole,
+    Bytes, Counters, Cut, Input, IoFault, Output, ReadAhead, Std, give_whole, take_whole,
 };
 
 const TEXT: &[u8] = b"rattles";
@@ -32,7 +31,7 @@ fn check_take<R: Input>(
     rt: &impl Abort,
     input: &mut R,
     piece: &mut [u8],
-    want: Result<usize, DeviceFault>,
+    want: Result<usize, IoFault>,
 ) {
     assert_eq!(rt; take_whole(input, piece), want);
 }
@@ -81,7 +80,10 @@ fn pieces_of_one_byte_are_joined(rt: HostRuntime) {
 
 #[test]
 fn a_thousand_interrupted_in_a_row_are_retried(rt: HostRuntime) {
-    for (before, taken, given) in [(1000, Ok(2), Ok(())), (1001, Err(DeviceFault), Err(0))] {
+    for (before, taken, given) in [
+        (1000, Ok(2), Ok(())),
+        (1001, Err(IoFault::Interrupted), Err(0)),
+    ] {
         let mut input = Cut::new(Std::new(TEXT), 1, before, 0);
         check_take(&rt, &mut input, &mut [0; 2], taken);
         let mut output = Cut::new(Std::new(Vec::new(rt.alloc())), 1, before, 0);
@@ -93,7 +95,7 @@ fn a_thousand_interrupted_in_a_row_are_retried(rt: HostRuntime) {
 fn a_reader_fails_at_the_call_that_was_set(rt: HostRuntime) {
     for fails_at in 1..=7 {
         let mut input = Cut::new(Std::new(TEXT), 1, 0, fails_at as u64);
-        check_take(&rt, &mut input, &mut [0; 7], Err(DeviceFault));
+        check_take(&rt, &mut input, &mut [0; 7], Err(IoFault::Failed));
         check_bytes(&rt, *input.inner().inner(), &TEXT[fails_at - 1..]);
     }
     let mut input = Cut::new(Std::new(TEXT), 1, 0, 8);
@@ -235,7 +237,7 @@ fn an_error_is_returned_at_its_call(rt: HostRuntime) {
 fn a_chunk_ends_at_an_error(rt: HostRuntime) {
     for code in ERRORS {
         let mut input = fails_once(code);
-        check_take(&rt, &mut input, &mut [0; 3], Err(DeviceFault));
+        check_take(&rt, &mut input, &mut [0; 3], Err(IoFault::Failed));
         check_calls(&rt, &input, 1);
         let mut output = fails_once(code);
         check_give(&rt, &mut output, &[0; 3], Err(0));

@@ -22,4 +22,4 @@ pub use memory::Bytes;
 pub use over_std::{Std, fault_of};
 pub use past::Past;
 pub use read_ahead::ReadAhead;
-pub use whole::{DeviceFault, give_whole, take_once, take_whole};
+pub use whole::{give_whole, take_once, take_whole};

@@ -6,19 +6,14 @@ ghost use Rattle.szg_io.specs.Moved.{Takes, Gives};
 
 use crate::device::{Input, IoFault, Output};
 
-/// A device failed, or returned `Interrupted` 1,001 times in a row.
-#[derive(Clone, Copy, Debug, PartialEq, Eq, Drop)]
-pub struct DeviceFault;
-
 /// The number of consecutive `Interrupted` that are retried.
 const RETRIES: u32 = 1000;
 
 /// Reads bytes into `chunk` until it is full or no bytes remain, and returns their number.
 ///
-/// Each call requests all of the chunk that is not filled yet. Errors: `DeviceFault` if the device failed or
-/// returned `Interrupted` 1,001 times in a row; the bytes read until then are lost. A device that may not fail
-/// returns no fault.
-pub fn take_whole<R: Input>(input: &mut R, chunk: &mut [u8]) -> Result<usize, DeviceFault>
+/// Each call requests all of the chunk that is not filled yet. Errors: `Failed` if the device failed, `Interrupted` if it
+/// returned that 1,001 times in a row; the bytes read until then are lost. A device that may not fail returns no fault.
+pub fn take_whole<R: Input>(input: &mut R, chunk: &mut [u8]) -> Result<usize, IoFault>
     ensures within { IfOk result (λ n. n ≤ length chunk.new) }
     ensures ok { IfOk result (λ n. n ≡ length chunk.new →
         Takes R.Input input.old input.new chunk.new 0) }
@@ -45,9 +40,9 @@ pub fn take_whole<R: Input>(input: &mut R, chunk: &mut [u8]) -> Result<usize, De
 /// Requests the whole chunk once, and again after an interruption. Returns the number of bytes read into its front,
 /// which is 0 only at the end or if the chunk is empty.
 ///
-/// Errors: `DeviceFault` if the device failed or returned `Interrupted` 1,001 times in a row. A device that may not
+/// Errors: `Failed` if the device failed, `Interrupted` if it returned that 1,001 times in a row. A device that may not
 /// fail returns no fault.
-pub fn take_once<R: Input>(input: &mut R, chunk: &mut [u8]) -> Result<usize, DeviceFault>
+pub fn take_once<R: Input>(input: &mut R, chunk: &mut [u8]) -> Result<usize, IoFault>
     ensures within { IfOk result (λ n. n ≤ length chunk.new) }
     ensures bytes { ReadConsumes (R.coming input.old) (R.coming input.new) result chunk.new }
     ensures calls { R.calls input.new ≤ R.calls input.old + 1001 }
@@ -60,11 +55,11 @@ pub fn take_once<R: Input>(input: &mut R, chunk: &mut [u8]) -> Result<usize, Dev
     'attempts: for _attempt in 0..RETRIES + 1 {
         match input.take(chunk) {
             Ok(n) => return Ok(n),
-            Err(IoFault::Failed) => return Err(DeviceFault),
+            Err(IoFault::Failed) => return Err(IoFault::Failed),
             Err(IoFault::Interrupted) => {}
         }
     }
-    Err(DeviceFault)
+    Err(IoFault::Interrupted)
 }
 
 /// Writes the whole chunk; each call passes all of it that is not written yet.

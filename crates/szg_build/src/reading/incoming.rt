@@ -3,7 +3,7 @@ ghost use Rattle.std.specs.Prelude.{◌≤◌};
 
 use arrayvec::ArrayVec;
 use std::alloc::Global;
-use szg_io::{DeviceFault, Input, take_once};
+use szg_io::{Input, IoFault, take_once};
 
 /// The size of the buffer.
 const ROOM: usize = 4096;
@@ -71,11 +71,7 @@ impl Incoming {
 
     /// Reads up to `most` more bytes ahead, in one call of the device; interrupted calls are repeated. Returns the
     /// number of bytes read, which is 0 only at the end of the input.
-    pub(crate) fn refill<R: Input>(
-        &mut self,
-        most: u64,
-        input: &mut R,
-    ) -> Result<usize, DeviceFault>
+    pub(crate) fn refill<R: Input>(&mut self, most: u64, input: &mut R) -> Result<usize, IoFault>
         requires some { 0 < most }
         requires room { length (held_of self.old) ≤ 80 }
         ensures line { self.new.line ≡ self.old.line }

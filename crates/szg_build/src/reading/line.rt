@@ -7,7 +7,7 @@ ghost use Rattle.szg_build.specs.Reading.{ReadsLines};
 use crate::dump::{DumpFault, DumpReadFault};
 use crate::reading::incoming::Incoming;
 use arrayvec::ArrayVec;
-use szg_io::{DeviceFault, Input};
+use szg_io::{Input, IoFault};
 
 /// The greatest number of bytes of a line before its 0A.
 const LINE_ROOM: usize = 80;
@@ -61,7 +61,7 @@ pub(crate) fn next_line<R: Input>(
                 return Err(DumpReadFault::Line { line, fault });
             }
             Ok(_) => {}
-            Err(DeviceFault) => return Err(DumpReadFault::Device),
+            Err(_) => return Err(DumpReadFault::Device),
         }
     }
 }

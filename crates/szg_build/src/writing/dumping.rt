@@ -13,7 +13,7 @@ ghost use Rattle.szg_build.specs.Text.{dump_text};
 use crate::writing::streaming::{begin_dump, end_dump};
 use std::alloc::Global;
 use szg_file::{ReadFault, TableIndex, scan};
-use szg_io::{DeviceFault, Input, Output};
+use szg_io::{Input, IoFault, Output};
 
 /// Reads the file of a table that has this index and these last sixteen bytes, from the reader's first byte on, and
 /// writes the text of its dump: in form 1 a line for each value, in form 2 a line for each maximal run of equal values.
@@ -30,7 +30,7 @@ pub fn stream_dump<R: Input, W: Output>(
     form: u8,
     input: &mut R,
     output: &mut W,
-) -> Result<Result<bool, DeviceFault>, ReadFault>
+) -> Result<Result<bool, IoFault>, ReadFault>
     requires form { (form ≡ 1) ⊎ (form ≡ 2) }
     requires first { R.moved input.old ≡ [] }
     // exactly the file of a table with this index was read, and exactly the text of its dump was written
@@ -41,13 +41,13 @@ pub fn stream_dump<R: Input, W: Output>(
     ensures fault { IfErr result (λ fault. IsFileRead R.Input index.now.material index.now.kind input.old input.new (Err fault)) }
 {
     let Ok(mut sink) = begin_dump(index, last, form, output) else {
-        return Ok(Err(DeviceFault));
+        return Ok(Err(IoFault::Failed));
     };
     let material = index.material().copy();
     let scanned = match scan(alloc, material, index.kind(), input, &mut sink, output) {
         Ok(scanned) => scanned,
         // the sink refuses values after a failed write, and `scan` then returns `Memory`
-        Err(ReadFault::Memory) if sink.failed => return Ok(Err(DeviceFault)),
+        Err(ReadFault::Memory) if sink.failed => return Ok(Err(IoFault::Failed)),
         Err(fault) => return Err(fault),
     };
     if !scanned.index.has_same(index) || scanned.last != *last {
@@ -55,6 +55,6 @@ pub fn stream_dump<R: Input, W: Output>(
     }
     match end_dump(&mut sink, output) {
         Ok(()) => Ok(Ok(true)),
-        Err(_) => Ok(Err(DeviceFault)),
+        Err(_) => Ok(Err(IoFault::Failed)),
     }
 }

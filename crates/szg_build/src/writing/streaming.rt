@@ -16,7 +16,7 @@ use crate::writing::{
     put_equal, put_flags_and_map, put_front, put_number, put_parts, put_subtable_id, run_length,
 };
 use szg_file::{TableIndex, ValueSink, WriteFault};
-use szg_io::{DeviceFault, Output};
+use szg_io::{IoFault, Output};
 use szg_values::Kind;
 
 // ---- the lines before a subtable's values
@@ -203,18 +203,18 @@ impl<W: Output> ValueSink<W> for DumpSink<'_> {
         true
     }
 
-    fn put(&mut self, values: &[u16], out: &mut W) -> Result<(), DeviceFault> {
+    fn put(&mut self, values: &[u16], out: &mut W) -> Result<(), IoFault> {
         let Ok(()) = add_values(self, values, out) else {
             self.failed = true;
-            return Err(DeviceFault);
+            return Err(IoFault::Failed);
         };
         Ok(())
     }
 
-    fn put_same(&mut self, value: u16, count: u64, out: &mut W) -> Result<(), DeviceFault> {
+    fn put_same(&mut self, value: u16, count: u64, out: &mut W) -> Result<(), IoFault> {
         let Ok(()) = add_same(self, value, count, out) else {
             self.failed = true;
-            return Err(DeviceFault);
+            return Err(IoFault::Failed);
         };
         Ok(())
     }

@@ -15,7 +15,7 @@ use crate::writing::stored::{StoredValues, stored_values};
 use crate::writing::streaming::{add_same, add_values, begin_dump, end_dump};
 use std::alloc::{AllocError, Global};
 use szg_file::Table;
-use szg_io::{DeviceFault, Output};
+use szg_io::{IoFault, Output};
 
 /// Adds the values of a subtable to the dump. Each block is decoded into `values`.
 fn put_stored<W: Output>(
@@ -23,19 +23,19 @@ fn put_stored<W: Output>(
     values: &mut Vec<u16>,
     sink: &mut DumpSink<'_>,
     output: &mut W,
-) -> Result<Result<(), DeviceFault>, AllocError>
+) -> Result<Result<(), IoFault>, AllocError>
     ensures goes { IfOk result (λ written. OnOk written (Goes W.Output (shown_values stored.entry) sink.old output.old sink.new output.new)) }
     ensures memory { OnErr result ((done : List ℕ) × (rest : List ℕ) × (done ++ rest ≡ shown_values stored.entry) × Goes W.Output done sink.old output.old sink.new output.new) }
     ensures failed { IfOk result (λ written. OnErr written (HasFailed (W.failures output.old) (W.failures output.new) (W.interrupted output.new))) }
 {
     match stored {
         StoredValues::Same { value, count } => {
-            Ok(add_same(sink, value, count, output).map_err(|_| DeviceFault))
+            Ok(add_same(sink, value, count, output).map_err(|_| IoFault::Failed))
         }
         StoredValues::Blocks(mut blocks) => {
             'each: while blocks.decode_next(values)? {
                 let Ok(()) = add_values(sink, values, output) else {
-                    return Ok(Err(DeviceFault));
+                    return Ok(Err(IoFault::Failed));
                 };
             }
             Ok(Ok(()))
@@ -49,7 +49,7 @@ fn put_subtables<W: Output>(
     table: &Table,
     sink: &mut DumpSink<'_>,
     output: &mut W,
-) -> Result<Result<(), DeviceFault>, AllocError>
+) -> Result<Result<(), IoFault>, AllocError>
     ensures goes { IfOk result (λ written. OnOk written (Goes W.Output (all_values table.now.contents) sink.old output.old sink.new output.new)) }
     ensures memory { OnErr result ((done : List ℕ) × (rest : List ℕ) × (done ++ rest ≡ all_values table.now.contents) × Goes W.Output done sink.old output.old sink.new output.new) }
     ensures failed { IfOk result (λ written. OnErr written (HasFailed (W.failures output.old) (W.failures output.new) (W.interrupted output.new))) }
@@ -60,7 +60,7 @@ fn put_subtables<W: Output>(
             unreachable!()
         };
         let Ok(()) = put_stored(stored, &mut values, sink, output)? else {
-            return Ok(Err(DeviceFault));
+            return Ok(Err(IoFault::Failed));
         };
     }
     Ok(Ok(()))
@@ -75,7 +75,7 @@ pub fn dump_table<W: Output>(
     table: &Table,
     form: u8,
     output: &mut W,
-) -> Result<Result<(), DeviceFault>, AllocError>
+) -> Result<Result<(), IoFault>, AllocError>
     requires { (form ≡ 1) ⊎ (form ≡ 2) }
     ensures dumped { IfOk result (λ written. OnOk written ((dump : Dump) × IsDumpOf dump table.now.contents × Gives W.Output output.old output.new (dump_text (form_of form) dump) 0)) }
     // a beginning of the text was written
@@ -83,10 +83,10 @@ pub fn dump_table<W: Output>(
     ensures failed { IfOk result (λ written. OnErr written (HasFailed (W.failures output.old) (W.failures output.new) (W.interrupted output.new))) }
 {
     let Ok(mut sink) = begin_dump(table.index(), table.last(), form, output) else {
-        return Ok(Err(DeviceFault));
+        return Ok(Err(IoFault::Failed));
     };
     let Ok(()) = put_subtables(alloc, table, &mut sink, output)? else {
-        return Ok(Err(DeviceFault));
+        return Ok(Err(IoFault::Failed));
     };
-    Ok(end_dump(&mut sink, output).map_err(|_| DeviceFault))
+    Ok(end_dump(&mut sink, output).map_err(|_| IoFault::Failed))
 }

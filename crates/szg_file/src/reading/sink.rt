@@ -1,7 +1,7 @@
 //! Where the values of a table go while its file is read.
 ghost use Rattle.std.specs.Prelude.{◌≡◌, ℕ, List, Bool, OnOk, replicate};
 
-use szg_io::DeviceFault;
+use szg_io::IoFault;
 
 /// Accepts the values of subtables in order. What it makes of them goes to `out`. After a fault it takes no more values: its
 /// output failed, or an allocation was refused. The sink itself knows which.
@@ -17,12 +17,12 @@ pub trait ValueSink<W> {
         ensures { result ≡ wanted self.now part side };
 
     /// Accepts the next values.
-    fn put(&mut self, values: &[u16], out: &mut W) -> Result<(), DeviceFault>
+    fn put(&mut self, values: &[u16], out: &mut W) -> Result<(), IoFault>
         ensures accepted { OnOk result (accepts self.old out.old values.now self.new out.new) }
         ensures stays { wanted self.new ≡ wanted self.old };
 
     /// Accepts the same value `count` times.
-    fn put_same(&mut self, value: u16, count: u64, out: &mut W) -> Result<(), DeviceFault>
+    fn put_same(&mut self, value: u16, count: u64, out: &mut W) -> Result<(), IoFault>
         ensures accepted { OnOk result (accepts self.old out.old (replicate count value) self.new out.new) }
         ensures stays { wanted self.new ≡ wanted self.old };
 }
@@ -42,11 +42,11 @@ impl<W> ValueSink<W> for NoSink {
         false
     }
 
-    fn put(&mut self, _values: &[u16], _out: &mut W) -> Result<(), DeviceFault> {
+    fn put(&mut self, _values: &[u16], _out: &mut W) -> Result<(), IoFault> {
         Ok(())
     }
 
-    fn put_same(&mut self, _value: u16, _count: u64, _out: &mut W) -> Result<(), DeviceFault> {
+    fn put_same(&mut self, _value: u16, _count: u64, _out: &mut W) -> Result<(), IoFault> {
         Ok(())
     }
 }
