@@ -138,11 +138,20 @@ fn placed_man_of(man: &RawMan) -> Option<(Man, Color, Square)>
     ensures reported { IsTrue (is_coded_man man.now) → result ≡ Some (placed_man_of man.now) }
     ensures unstated { IsFalse (is_coded_man man.now) → result ≡ None }
 {
-    if !is_coded_man(man) {
+    let kind = match man.kind {
+        1 => Man::Pawn,
+        2 => Man::Knight,
+        3 => Man::Bishop,
+        4 => Man::Rook,
+        5 => Man::Queen,
+        6 => Man::King,
+        _ => return None,
+    };
+    if man.color >= 2 {
         return None;
     }
     let square = Square::new(man.square)?;
-    Some((Man::of_code(man.kind), color_of(man.color), square))
+    Some((kind, color_of(man.color), square))
 }
 
 pub(crate) fn color_of(color: u8) -> Color
