@@ -1,8 +1,8 @@
 -- The squares of a colour's men that men of the other one reach, as a set.
 use Rattle.std.proofs.Common.{◌≡◌, ℕ, ◌+◌, ◌*◌, ◌%◌, ◌^◌, ◌<◌, ◌≤◌, List, [], ◌∷◌, length, take, get_or, zero, suc, refl, sym, ap, ◌∙◌, Bool, true, false, arith, inl, inr}
-use Rattle.std.specs.Prelude.{◌&&◌, ◌||◌, ◌==◌, ◌++◌, nat_lt, min, max, filter, flat_map, is_some, Option, Some, None}
+use Rattle.std.specs.Prelude.{not, ◌&&◌, ◌||◌, ◌==◌, ◌++◌, nat_lt, min, max, filter, flat_map, is_some, Option, Some, None}
 use Rattle.std.specs.List.{list_any, Contains}
-use Rattle.std.specs.Int.{bit_at}
+use Rattle.std.specs.Int.{bit_at, from_bool}
 use Rattle.std.specs.Int.Bits.{bit_and, bit_or}
 use Rattle.std.proofs.lemmas.Bool.{cases_Bool, and_parts, and_from, or_parts, both_ways, eq-eqb, eqb-true, ltb-true, ltb-false}
 use Rattle.std.proofs.lemmas.List.Elements.{All-contains}
@@ -19,7 +19,7 @@ use Rattle.szg_chess.specs.Moves.{men_of, moves_if, is_legal, captures_of, en_pa
 use Rattle.szg_chess.specs.Squares.{is_in, reach_of, reached_of}
 use Rattle.szg_chess.proofs.Members.{any_of, some_of}
 use Rattle.szg_chess.proofs.Reach.{reach_split}
-use Rattle.szg_chess.proofs.Sets.{added, in_set, same_bool}
+use Rattle.szg_chess.proofs.Sets.{added, in_set, same_bool, turned}
 
 -- a man of the colour is on the square
 abbrev pub stands : Color → ℕ → PlacedMan → Bool
@@ -45,10 +45,15 @@ pub in_none : (q : ℕ) → is_in 0 q ≡ false
 in_none q = ap (λ (n : ℕ). n == 1) (bit_at-zero q)
 
 -- the set of one square
-pub in_one : (n q : ℕ) → n < 64 → is_in (1 * 2 ^ n % 2 ^ 64) q ≡ (q == n)
+in_one : (n q : ℕ) → n < 64 → is_in (1 * 2 ^ n % 2 ^ 64) q ≡ (q == n)
 in_one n q h =
     let one = 1 * 2 ^ n % 2 ^ 64 in
     sym (in_either 0 one q ∙ ap (λ (b : Bool). b || is_in one q) (in_none q)) ∙ added 0 n q h ∙ ap (λ (b : Bool). b || q == n) (in_none q)
+
+-- the set of one square, or of none
+pub in_one_if : (b : Bool) (n q : ℕ) → n < 64 → is_in (from_bool b * 2 ^ n % 2 ^ 64) q ≡ (b && n == q)
+in_one_if true n q h = in_one n q h ∙ turned q n
+in_one_if false n q h = let e : 0 * 2 ^ n % 2 ^ 64 ≡ 0 = omega arith in ap (λ (k : ℕ). is_in k q) e ∙ in_none q
 
 -- ---- a set, man by man
 
@@ -62,17 +67,11 @@ with_set test men i s squares set q h is same before =
 
 -- ---- colours
 
-pub is_other : (a b : Color) → is_color a b ≡ false → is_color (other_color a) b ≡ true
-is_other White White e = cc
-is_other White Black e = refl
-is_other Black White e = refl
-is_other Black Black e = cc
-
-pub is_no_other : (a b : Color) → is_color a b ≡ true → is_color (other_color a) b ≡ false
-is_no_other White White e = refl
-is_no_other White Black e = cc
-is_no_other Black White e = cc
-is_no_other Black Black e = refl
+pub is_other : (a b : Color) → is_color (other_color a) b ≡ not (is_color a b)
+is_other White White = refl
+is_other White Black = refl
+is_other Black White = refl
+is_other Black Black = refl
 
 pub back_again : (color : Color) → other_color (other_color color) ≡ color
 back_again White = refl

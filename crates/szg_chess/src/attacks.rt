@@ -103,11 +103,7 @@ pub(crate) fn reached_by(men: &[(Man, Color, Square)], color: Color) -> u64
 fn square_of_other(color: Color, man: &(Man, Color, Square)) -> u64
     ensures { (square : ℕ) → square < 64 → is_in result square ≡ (is_color (other_color color) man.now.1 && man.now.2 == square) }
 {
-    if is_of(color, man) {
-        0
-    } else {
-        1 << man.2.number()
-    }
+    u64::from(!is_of(color, man)) << man.2.number()
 }
 
 /// Returns whether a man is of a colour.

@@ -30,11 +30,8 @@ fn reach_number_by(color: Color, man: &(Man, Color, Square)) -> u8
     ensures number { result ≡ (if is_color color man.now.1 then (if is_man Pawn man.now.0 && is_color Black man.now.1 then 0 else code_of man.now.0) else 7) }
     ensures small { result < 8 }
 {
-    if is_of(color, man) {
-        reach_number(man.0, man.1)
-    } else {
-        7
-    }
+    // 7 has the bits of each number
+    reach_number(man.0, man.1) | 7 * u8::from(!is_of(color, man))
 }
 
 /// Returns the number of a man's sets in `REACH`: its code, or 0 for Black's pawn.
