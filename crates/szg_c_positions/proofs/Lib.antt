@@ -1,4 +1,5 @@
 pub mod SoundMen
+pub mod NotStanding
 pub mod PutPositions
 pub mod TooManyMen
 pub mod MenOnBoard

@@ -1,5 +1,5 @@
 -- Placements as C passes them.
-use Rattle.std.specs.Prelude.{◌≡◌, ℕ, Bool, true, not, ◌&&◌, ◌==◌, nat_lt, List, ◌++◌, length, drop, map, Option, Some, None, Result, Ok, Err, if◌then◌else◌}
+use Rattle.std.specs.Prelude.{◌≡◌, ℕ, Bool, IsTrue, true, not, ◌&&◌, ◌==◌, nat_lt, List, ◌++◌, length, drop, map, Option, Some, None, Result, Ok, Err, if◌then◌else◌}
 use Rattle.std.specs.List.{list_all}
 use Rattle.szg_values.specs.Men.{code_of, man_at}
 use Rattle.szg_values.specs.Placement.{PlacedMan, Board, AreStanding, men_key, placement_fault}
@@ -46,6 +46,10 @@ pub record ArePut (men : List RawMan) (mover : ℕ) (placed_men : List PlacedMan
   pub placed : placed_men ≡ map placed_man_of men
   pub standing : AreStanding placed_men
   pub key_is : key ≡ men_key placed_men
+
+-- the side to move has no number of a colour, a man's numbers are invalid, or the men have a fault that one or two of them show
+abbrev pub HaveFault : List RawMan → ℕ → Type 0
+HaveFault men mover = IsTrue (nat_lt mover 2 && list_all is_coded_man men) → ¬ AreStanding (map placed_man_of men)
 
 -- ---- placements that C gets
 

@@ -3,7 +3,7 @@ ghost use Rattle.std.specs.Prelude.{◌≡◌, ◌<◌, ◌≤◌, ◌&&◌, ◌
 ghost use Rattle.std.specs.declared.option.Option.TheVariants.{None, Some};
 ghost use Rattle.std.specs.List.{list_all};
 ghost use Rattle.szg_values.specs.Placement.{AreStanding, men_key};
-ghost use Rattle.szg_c_positions.specs.Men.{ArePut, IsWritten, board_of, coded_man, color_of as color_stated, with_room, is_coded_man, placement_status, placed_man_of};
+ghost use Rattle.szg_c_positions.specs.Men.{ArePut, HaveFault, IsWritten, board_of, coded_man, color_of as color_stated, with_room, is_coded_man, placement_status, placed_man_of};
 
 use crate::status::{DONE, MAN, MEN, PAWN_RANK, RANGE, SAME_SQUARE};
 use arrayvec::ArrayVec;
@@ -32,9 +32,13 @@ pub fn key_of_men(
     placed_men: &mut ArrayVec<(Man, Color, Square), MAX_MEN>,
 ) -> Option<u64>
     requires { placed_men.old.items ≡ [] }
-    ensures { IfSome result (λ key. ArePut men.now mover placed_men.new.items key) }
+    ensures put { IfSome result (λ key. ArePut men.now mover placed_men.new.items key) }
+    ensures fault { IsNone result → HaveFault men.now mover }
 {
-    if mover >= 2 || men.len() > MAX_MEN {
+    if mover >= 2 {
+        return None;
+    }
+    if men.len() > MAX_MEN {
         return None;
     }
     put_men(men, placed_men)
@@ -65,6 +69,7 @@ fn put_men(men: &[RawMan], placed_men: &mut ArrayVec<(Man, Color, Square), MAX_M
     ensures placed { IfSome result (λ key. placed_men.new.items ≡ map placed_man_of men.now) }
     ensures standing { IfSome result (λ key. AreStanding (map placed_man_of men.now)) }
     ensures key { IfSome result (λ key. key ≡ men_key (map placed_man_of men.now)) }
+    ensures fault { IsNone result → IsTrue (list_all is_coded_man men.now) → ¬ AreStanding (map placed_man_of men.now) }
 {
     let mut taken = 0;
     let mut key = 0;

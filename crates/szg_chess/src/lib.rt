@@ -22,6 +22,7 @@ mod uci;
 
 pub use attacks::is_in;
 pub use moves::next_in;
+pub use positions::SoundMen;
 
 /// A list of captures has room for this many. A pawn attacks two squares, so that it has at most 8 captures and one en
 /// passant, and a piece one of each enemy man. With four men against two, these are at most 2 of the king and 27.

@@ -4,7 +4,7 @@ ghost use Rattle.std.specs.Prelude.{◌≡◌, ◌<◌, ◌≤◌, ◌==◌, ◌
 ghost use Rattle.std.specs.List.{find};
 ghost use Rattle.std.specs.Option.{ForSome};
 ghost use Rattle.szg_values.specs.Men.{other_color, file_of, square_at};
-ghost use Rattle.szg_values.specs.Placement.{AreOnBoard, men_key, number_of, has_distinct_squares, has_pawns_on_inner_ranks};
+ghost use Rattle.szg_values.specs.Placement.{AreOnBoard, AreStanding, men_key, number_of, has_distinct_squares, has_pawns_on_inner_ranks};
 ghost use Rattle.szg_chess.specs.Attacks.{is_occupied, is_in_check, reaches_other};
 ghost use Rattle.szg_chess.specs.Position.{IsPosition, men_fault, state_fault, position_fault, has_two_to_six, has_kings, without_en_passant, man_on, is_on, was_passed, has_sound_en_passant};
 ghost use Rattle.szg_chess.specs.Squares.{reached_of, squares_of};
@@ -14,10 +14,111 @@ use crate::attacks::{is_in_check, is_in_check_by, other_color, reached_by, squar
 use crate::men::few_men;
 use crate::moves::next_in;
 use crate::{Position, PositionFault};
+use std::marker::Model;
 use szg_values::{
     Color, Man, PlacedMen, Placement, Square, has_distinct_squares, has_pawns_on_inner_ranks,
     key_of, number_of,
 };
+
+/// The men of a position, in a list that someone else owns, the side to move and the en passant square. It is passed in
+/// registers, where a `Position` moves its men.
+#[derive(Drop)]
+pub struct SoundMen<'a> {
+    men: &'a [(Man, Color, Square)],
+    // the squares of the men, their key, and the enemy men's squares that are reached, as a position keeps them
+    occupied: u64,
+    key: u64,
+    reached: u64,
+    mover: Color,
+    en_passant: Option<Square>,
+}
+
+impl<'a> Model for SoundMen<'a> {
+    ghost use Rattle.szg_chess.specs.Position.{Position};
+    ghost use Rattle.szg_chess.specs.Squares.{IsStored};
+
+    ghost Value = { Position };
+
+    ghost view = { λ p. record { placed_men = p.men.now; mover = p.mover; en_passant = p.en_passant } };
+
+    ghost invariant = { λ p. IsStored (record { placed_men = p.men.now; mover = p.mover; en_passant = p.en_passant }) p.occupied p.key p.reached };
+}
+
+impl<'a> SoundMen<'a> {
+    ghost use Rattle.std.specs.Prelude.{◌≡◌, IsNone, IfSome, None, Ok, Err};
+    ghost use Rattle.szg_values.specs.Placement.{AreOnBoard, AreStanding, men_key};
+    ghost use Rattle.szg_chess.specs.Position.{men_fault, state_fault, position_fault};
+
+    /// Borrows men that stand on squares of the board, each put there by [`with_man`](szg_values::with_man), and takes their
+    /// key, the side to move, and the square that a pawn has just passed over by a double step. Errors: the first of the
+    /// faults that men can have.
+    #[inline(always)]
+    #[tactic(auto, unfolding(crate::specs::Position::position_fault))]
+    pub fn of_standing(
+        men: &'a [(Man, Color, Square)],
+        key: u64,
+        mover: Color,
+        en_passant: Option<Square>,
+    ) -> Result<SoundMen<'a>, PositionFault>
+        requires standing { AreStanding men.now }
+        requires key { key ≡ men_key men.now }
+        ensures accepted { IsNone (position_fault (record { placed_men = men.now; mover = mover; en_passant = en_passant })) → result ≡ Ok (record { placed_men = men.now; mover = mover; en_passant = en_passant }) }
+        ensures refused { IfSome (position_fault (record { placed_men = men.now; mover = mover; en_passant = en_passant })) (λ fault. result ≡ Err fault) }
+    {
+        match standing_fault(men, key, mover) {
+            Some(fault) => Err(fault),
+            None => SoundMen::of_men(men, key, mover, en_passant),
+        }
+    }
+
+    /// Borrows sound men. Errors: the en passant square, or the side not to move is in check.
+    #[inline(always)]
+    #[tactic(auto, unfolding(crate::specs::Position::position_fault, crate::specs::Position::state_fault))]
+    fn of_men(
+        men: &'a [(Man, Color, Square)],
+        key: u64,
+        mover: Color,
+        en_passant: Option<Square>,
+    ) -> Result<SoundMen<'a>, PositionFault>
+        requires men { men_fault men.now ≡ None }
+        requires on_board { AreOnBoard men.now }
+        requires key { key ≡ men_key men.now }
+        ensures accepted { IsNone (state_fault (record { placed_men = men.now; mover = mover; en_passant = en_passant })) → result ≡ Ok (record { placed_men = men.now; mover = mover; en_passant = en_passant }) }
+        ensures refused { IfSome (state_fault (record { placed_men = men.now; mover = mover; en_passant = en_passant })) (λ fault. result ≡ Err fault) }
+    {
+        if !has_sound_en_passant(men, mover, &en_passant) {
+            return Err(PositionFault::EnPassant);
+        }
+        let occupied = squares_of(men);
+        let reached = reached_by(men, mover);
+        if is_in_check_by(men, occupied, other_color(mover), mover, reached) {
+            return Err(PositionFault::OpponentInCheck);
+        }
+        Ok(SoundMen {
+            men,
+            occupied,
+            key,
+            reached,
+            mover,
+            en_passant,
+        })
+    }
+
+    /// Returns the position.
+    #[inline(always)]
+    pub fn position(&self) -> Position
+        ensures { result ≡ self.now }
+    {
+        Position {
+            men: few_men(self.men),
+            occupied: self.occupied,
+            key: self.key,
+            reached: self.reached,
+            mover: self.mover,
+            en_passant: self.en_passant,
+        }
+    }
+}
 
 impl Position {
     /// Creates a position of men, the side to move, and the square that a pawn has just passed over by a double step.
@@ -38,8 +139,6 @@ impl Position {
     }
 
     /// Creates a position of sound men. Errors: the en passant square, or the side not to move is in check.
-    #[inline(always)]
-    #[tactic(auto, unfolding(crate::specs::Position::position_fault, crate::specs::Position::state_fault))]
     pub(crate) fn of_men(
         men: &[(Man, Color, Square)],
         key: u64,
@@ -52,40 +151,10 @@ impl Position {
         ensures accepted { IsNone (state_fault (record { placed_men = men.now; mover = mover; en_passant = en_passant })) → result ≡ Ok (record { placed_men = men.now; mover = mover; en_passant = en_passant }) }
         ensures refused { IfSome (state_fault (record { placed_men = men.now; mover = mover; en_passant = en_passant })) (λ fault. result ≡ Err fault) }
     {
-        if !has_sound_en_passant(men, mover, &en_passant) {
-            return Err(PositionFault::EnPassant);
+        match SoundMen::of_men(men, key, mover, en_passant) {
+            Ok(sound) => Ok(sound.position()),
+            Err(fault) => Err(fault),
         }
-        let occupied = squares_of(men);
-        let reached = reached_by(men, mover);
-        if is_in_check_by(men, occupied, other_color(mover), mover, reached) {
-            return Err(PositionFault::OpponentInCheck);
-        }
-        Ok(Position {
-            men: few_men(men),
-            occupied,
-            key,
-            reached,
-            mover,
-            en_passant,
-        })
-    }
-
-    /// Creates a position of a placement's men, the side to move, and the square that a pawn has just passed over by a double
-    /// step. Errors: the en passant square, or the side not to move is in check.
-    #[inline(always)]
-    pub fn of_placed_men(
-        placed_men: &PlacedMen<'_>,
-        en_passant: Option<Square>,
-    ) -> Result<Position, PositionFault>
-        ensures accepted { IsNone (position_fault (record { placed_men = placed_men.now.placed_men; mover = placed_men.now.mover; en_passant = en_passant })) → result ≡ Ok (record { placed_men = placed_men.now.placed_men; mover = placed_men.now.mover; en_passant = en_passant }) }
-        ensures refused { IfSome (position_fault (record { placed_men = placed_men.now.placed_men; mover = placed_men.now.mover; en_passant = en_passant })) (λ fault. result ≡ Err fault) }
-    {
-        Position::of_men(
-            placed_men.men(),
-            placed_men.key(),
-            placed_men.mover(),
-            en_passant,
-        )
     }
 
     /// Returns the placement of the men and the side to move, which drops the en passant square. None for bare kings,
@@ -200,6 +269,19 @@ impl Position {
         ensures on_board { AreOnBoard self.now.placed_men }
     {
         self.reached
+    }
+}
+
+/// Returns the first fault of men that stand on squares of the board, if any. Bare kings have none.
+#[inline(always)]
+fn standing_fault(men: &[(Man, Color, Square)], key: u64, mover: Color) -> Option<PositionFault>
+    requires standing { AreStanding men.now }
+    requires key { key ≡ men_key men.now }
+    ensures { result ≡ men_fault men.now }
+{
+    match PlacedMen::of_standing(men, mover, key) {
+        Some(_) => None,
+        None => men_fault(men),
     }
 }
 
