@@ -84,7 +84,10 @@ fn stored_class<T: Tables>(tables: &mut T, position: &Position) -> Result<Class,
     if position.men().len() == 2 {
         return Ok(Class::Draw);
     }
-    tables.class(position)
+    match tables.known_class(position) {
+        Some(class) => Ok(class),
+        None => tables.class(position),
+    }
 }
 
 /// Returns whether the captures en passant are the only legal moves. Without an en passant square no move is generated.

@@ -1,6 +1,6 @@
 //! What a set of tables offers.
 
-ghost use Rattle.std.specs.Prelude.{◌≡◌, ◌<◌, ◌^◌, length, List, IfOk, IfErr, Some};
+ghost use Rattle.std.specs.Prelude.{◌≡◌, ◌<◌, ◌^◌, length, List, IfOk, IfErr, IfSome, Some};
 ghost use Rattle.std.specs.Option.{ForSome};
 ghost use Rattle.szg_values.specs.Placement.{PlacedMan};
 ghost use Rattle.szg_values.specs.declared.Color.{Color};
@@ -23,6 +23,16 @@ pub trait Tables {
 
     // for what the tables store, when a fault may come for these men and this side to move
     ghost explains: { StoredClasses → StoredNumbers → Self.Fault → List PlacedMan → Color → Type 0 };
+
+    /// Returns the class as `class` does, without preparing for a fault. None if it isn't known: then `class` says more. A set
+    /// that has no quicker way knows none.
+    fn known_class(&mut self, _position: &Position) -> Option<Class>
+        requires { 2 < length _position.now.placed_men }
+        ensures same { self.new ≡ self.old }
+        ensures class { IfSome result (λ k. stored self.old _position.now.placed_men _position.now.mover ≡ Some k) }
+    {
+        None
+    }
 
     /// Returns the class that the tables store for the men and the side to move of a position. The en passant square
     /// does not count. Errors: those of the set of tables.

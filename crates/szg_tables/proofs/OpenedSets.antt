@@ -75,10 +75,6 @@ pub element_is : {X : Type 0} (xs ys : List X) (n : ℕ) (x : X) → xs ≡ ys �
 element_is {X} xs ys n x same below is =
     ap (λ (zs : List X). slice_get zs n) (sym same) ∙ slice_get-get_or xs n x (subst (λ (zs : List X). n < length zs) (sym same) below) ∙ ap (λ (y : X). Some y) (sym is)
 
-pub found_below : {X : Type 0} (P : X → Type 0) (xs ys : List X) (o : Option ℕ) → xs ≡ ys → IfSome o (λ n. IsSomeAnd (slice_get ys n) P) → IfSome o (λ n. n < length xs)
-found_below P xs ys None same there = tt
-found_below {X} P xs ys (Some n) same there = subst (λ (zs : List X). n < length zs) (sym same) (some_below ys n P there)
-
 -- one that is put back as it was changes nothing
 pub put_back : {X : Type 0} (xs : List X) (n : ℕ) (new old : X) → new ≡ old → old ≡ get_or xs n old → set xs n new ≡ xs
 put_back xs n new old same is = ap (set xs n) (same ∙ is) ∙ set-get_or xs n old
@@ -120,12 +116,6 @@ module _ {A : Type 0} (opened : A → Opened) (tables : List A) (men : List Plac
   pub class_by : (o : Option A) (x : Option Class) → first_for opened Wdl board tables ≡ o → option_and_then (λ t. class_in board (opened t)) o ≡ x → opened_classes opened tables men mover ≡ x
   class_by o x found there =
       subst (λ (b : Board). option_and_then (λ (t : A). class_in b (opened t)) (first_for opened Wdl b tables) ≡ x) is (ap (option_and_then (λ (t : A). class_in board (opened t))) found ∙ there)
-
-  pub class_by_found : (o : Option ℕ) (tables' : List A) (k : Class) → tables' ≡ tables → IfSome o (λ n. first_for opened Wdl board tables ≡ slice_get tables n) →
-      IsSomeAnd o (λ n. option_and_then (λ t. class_in board (opened t)) (slice_get tables' n) ≡ Some k) → opened_classes opened tables men mover ≡ Some k
-  class_by_found None tables' k same found there = absurd there
-  class_by_found (Some n) tables' k same found there =
-      class_by (slice_get tables n) (Some k) found (subst (λ (ts : List A). option_and_then (λ (t : A). class_in board (opened t)) (slice_get ts n) ≡ Some k) same there)
 
   pub number_by_table : (k : Class) (o : Option A) (x : Option (Option ℕ)) → first_for opened Dtz board tables ≡ o → option_and_then (λ t. number_in board k (opened t)) o ≡ x →
       opened_numbers opened tables men mover k ≡ x

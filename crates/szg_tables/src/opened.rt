@@ -208,50 +208,6 @@ impl<T: OpenTable> OpenedSet<T> {
         class_in(&mut self.tables[n], men)
     }
 
-    /// Returns the class of a placement's men in the table of this number, if one was found. None if it is missing.
-    fn known_class(&mut self, found: Option<usize>, men: &PlacedMen<'_>) -> Option<Class>
-        requires { IfSome found (λ n. n < length self.old) }
-        ensures same { self.new ≡ self.old }
-        ensures class { IfSome result (λ k. IsSomeAnd found (λ n. option_and_then (λ t. class_in men.now (T.opened t)) (slice_get self.old n) ≡ Some k)) }
-    {
-        let n = found?;
-        match self.class_at(n, men) {
-            Ok(class) => Some(class),
-            Err(_) => None,
-        }
-    }
-
-    /// `class`, where the first table for the men was found before. It is a function of its own, so that a class that is known
-    /// is returned without preparing for what may be missing.
-    #[cold]
-    #[inline(never)]
-    fn class_or_missing(
-        &mut self,
-        found: Option<usize>,
-        position: &Position,
-    ) -> Result<Class, Missing>
-        requires men { 2 < length position.now.placed_men }
-        requires found { IfSome found (λ n. first_for T.opened Kind.Wdl (board_of position.now.placed_men position.now.mover) self.old ≡ slice_get self.old n) }
-        requires kind { IfSome found (λ n. IsSomeAnd (slice_get self.old n) (λ t. (T.opened t).index.kind ≡ Kind.Wdl)) }
-        requires none { IfNone found (first_for T.opened Kind.Wdl (board_of position.now.placed_men position.now.mover) self.old ≡ None) }
-        ensures same { self.new ≡ self.old }
-        ensures class { IfOk result (λ k. opened_classes T.opened self.old position.now.placed_men position.now.mover ≡ Some k) }
-        ensures fault { IfErr result (λ missing. IsMissing (opened_classes T.opened self.old) (opened_numbers T.opened self.old) missing position.now.placed_men position.now.mover) }
-        ensures reason { IfErr result (λ missing. IsReason T.opened T.explains missing.kind (board_of position.now.placed_men position.now.mover) self.old missing.reason) }
-    {
-        let Some(men) = position.placed_men() else {
-            unreachable!()
-        };
-        let n = match found {
-            Some(n) => n,
-            None => return Err(missing(position, Kind::Wdl, MissingReason::Table)),
-        };
-        match self.class_at(n, &men) {
-            Ok(class) => Ok(class),
-            Err(reason) => Err(missing(position, Kind::Wdl, reason)),
-        }
-    }
-
     /// Returns the number of a placement's men in a class in the table of this number. None if the table stores the other
     /// side to move.
     fn number_at(
@@ -280,7 +236,22 @@ impl<T: OpenTable> Tables for OpenedSet<T> {
 
     ghost explains = { λ classes numbers missing men mover. IsMissing classes numbers missing men mover };
 
+    fn known_class(&mut self, position: &Position) -> Option<Class> {
+        let Some(men) = position.placed_men() else {
+            unreachable!()
+        };
+        let Some(n) = self.find(Kind::Wdl, &men) else {
+            return None;
+        };
+        match self.class_at(n, &men) {
+            Ok(class) => Some(class),
+            Err(_) => None,
+        }
+    }
+
     // the clauses of the trait; and why there is no class
+    #[cold]
+    #[inline(never)]
     fn class(&mut self, position: &Position) -> Result<Class, Missing>
         requires { 2 < length position.now.placed_men }
         ensures same { self.new ≡ self.old }
@@ -291,10 +262,13 @@ impl<T: OpenTable> Tables for OpenedSet<T> {
         let Some(men) = position.placed_men() else {
             unreachable!()
         };
-        let found = self.find(Kind::Wdl, &men);
-        match self.known_class(found, &men) {
-            Some(class) => Ok(class),
-            None => self.class_or_missing(found, position),
+        let n = match self.find(Kind::Wdl, &men) {
+            Some(n) => n,
+            None => return Err(missing(position, Kind::Wdl, MissingReason::Table)),
+        };
+        match self.class_at(n, &men) {
+            Ok(class) => Ok(class),
+            Err(reason) => Err(missing(position, Kind::Wdl, reason)),
         }
     }
 }

@@ -7,3 +7,9 @@ class-requires g c =
     let two = men_two c.args.position.now c.men.ensures.position in
     let same : length c.men.result.now ≡ length c.args.position.now.placed_men = ap length c.men.ensures.men in
     omega arith
+
+pub known_class-requires : goal.known_class-requires
+known_class-requires g c =
+    let two = men_two c.args.position.now c.men.ensures.position in
+    let same : length c.men.result.now ≡ length c.args.position.now.placed_men = ap length c.men.ensures.men in
+    omega arith
