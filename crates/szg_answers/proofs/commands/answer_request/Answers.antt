@@ -20,7 +20,7 @@ pub returns-in_ok-dump_table-in-Dump-clause-stated : goal.returns-in_ok-dump_tab
 returns-in_ok-dump_table-in-Dump-clause-stated g c =
     let t = c.args.table.now in
     let form = c.number.result in
-    on_ok_weaker c.map_err.result (λ (dumped : (dump : Dump) × IsDumpOf dump t.contents × Gives g.W.Output c.args.writer.now c.dump_table.new.output (dump_text (form_of form) dump) 0).
+    on_ok_weaker c.map_err-in-Dump.result (λ (dumped : (dump : Dump) × IsDumpOf dump t.contents × Gives g.W.Output c.args.writer.now c.dump_table.new.output (dump_text (form_of form) dump) 0).
     let text : List ℕ = dump_text (form_of form) dumped.0 in (
       text,
       subst (λ (a : Action). IsAnswer a c.args.request.now.part c.args.request.now.side t text) (sym c.in-Dump.is) (dumped.0, dumped.1, ap (λ (n : ℕ). dump_text (form_of n) dumped.0) c.number.ensures.number),
