@@ -62,7 +62,7 @@ fn refused_codes(rt: HostRuntime) {
 }
 
 /// Two words at a step are read if at least 192 of 256 bytes begin with two whole words. Word by word is read another code in
-/// which 63 of 64 windows begin with a word of the two least lengths, and by bytes one in which 31 of 32 windows begin with a
+/// which 63 of 64 windows begin with a word of the two least lengths, and by bytes one in which 63 of 64 windows begin with a
 /// word of the least length, eight bits.
 #[test]
 fn ways_of_reading(rt: HostRuntime) {
@@ -76,9 +76,9 @@ fn ways_of_reading(rt: HostRuntime) {
         // 2 and 4 words of 7 bits: 1 and 2 of 64 windows
         (code(&rt, 5, 7, &[33, 2, 0], 64), false, true, false),
         (code(&rt, 5, 7, &[34, 4, 0], 64), false, false, false),
-        // 248 and 247 words of 8 bits: 31 of 32 windows, and fewer
-        (code(&rt, 8, 9, &[16, 0], 264), false, true, true),
-        (code(&rt, 8, 9, &[18, 0], 265), false, true, false),
+        // 252 and 251 words of 8 bits: 63 of 64 windows, and fewer
+        (code(&rt, 8, 9, &[8, 0], 260), false, true, true),
+        (code(&rt, 8, 9, &[10, 0], 261), false, true, false),
         (code(&rt, 7, 8, &[0, 0], 128), false, true, false),
     ];
     for (code, two_words, word_by_word, bytes) in codes.iter() {

@@ -3,7 +3,6 @@
 use Rattle.std.specs.Prelude.{ℕ, Bool, ◌≡◌, ◌+◌, ◌-◌, ◌*◌, ◌/◌, ◌%◌, ◌^◌, ◌<◌, ◌≤◌, List, length, take, slice_index}
 use Rattle.szg_code.specs.Bits.{number}
 use Rattle.szg_code.specs.Canonical.{CanonicalCode, base, lowest_of, symbol_at}
-use Rattle.szg_code.specs.declared.canonical.FirstWord.{FirstWord}
 
 -- l is the least length at which the number of the first l bits is at least the base of l
 pub record IsLeastLength (code : CanonicalCode) (bits : List Bool) (l : ℕ) : Type 0 where
@@ -37,25 +36,6 @@ HasShiftedBases code bases = (l : ℕ) → code.min_length ≤ l → l ≤ code.
 abbrev pub HasBytesAbove : CanonicalCode → ℕ → Type 0
 HasBytesAbove code bound = (window : ℕ) → bound < window → window < 2 ^ 64 →
     (code.min_length ≡ 8) × (shifted_base code 64 8 ≤ window) × (symbol_at code 8 (window / 2 ^ 56) < code.symbols)
-
--- the word has the least length whose base a 64-bit window reaches
-pub record IsFirstWord (code : CanonicalCode) (window : ℕ) (word : FirstWord) : Type 0 where
-  pub long : code.min_length ≤ word.length
-  pub short : word.length ≤ code.max_length
-  pub reaches : shifted_base code 64 word.length ≤ window
-  pub before : (k : ℕ) → code.min_length ≤ k → k < word.length → window < shifted_base code 64 k
-  pub symbol_is : word.symbol ≡ symbol_at code word.length (window / 2 ^ (64 - word.length))
-  pub there : word.symbol < code.symbols
-  pub rest : word.rest ≡ window * 2 ^ word.length % 2 ^ 64
-
--- the symbol of that length does not exist
-pub record HasNoFirstWord (code : CanonicalCode) (window : ℕ) : Type 0 where
-  pub l : ℕ
-  pub long : code.min_length ≤ l
-  pub short : l ≤ code.max_length
-  pub reaches : shifted_base code 64 l ≤ window
-  pub before : (k : ℕ) → code.min_length ≤ k → k < l → window < shifted_base code 64 k
-  pub none : code.symbols ≤ symbol_at code l (window / 2 ^ (64 - l))
 
 -- the symbol that the number 0 of a length would have, modulo 2^64
 unfoldable pub zero_symbol : CanonicalCode → ℕ → ℕ

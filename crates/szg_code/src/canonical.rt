@@ -4,7 +4,7 @@ ghost use Rattle.szg_code.specs.Bits.{bits_of_number};
 ghost use Rattle.szg_code.specs.Canonical.{IsWord, base, top, symbol_at};
 ghost use Rattle.szg_code.specs.Spelling.{HasNoWord};
 ghost use Rattle.szg_code.specs.Acceptance.{IsCode, IsCodeFault};
-ghost use Rattle.szg_code.specs.Least.{HasBytesAbove, HasNoFirstWord, IsFirstWord, shifted_base};
+ghost use Rattle.szg_code.specs.Least.{HasBytesAbove, shifted_base};
 ghost use Rattle.szg_code.specs.TwoWords.{ContainsTwoWords};
 
 use crate::CodeFault;
@@ -219,7 +219,7 @@ impl Code {
     /// If `TABLE`, the search starts where the table of first bytes says. Otherwise it starts at one of the two least
     /// lengths, by a comparison that isn't a branch: what comes next waits for no table and for no prediction.
     #[inline(always)]
-    fn reached_length<const TABLE: bool>(&self, window: u64) -> usize
+    pub(crate) fn reached_length<const TABLE: bool>(&self, window: u64) -> usize
         ensures accepted { IsCode self.now }
         ensures long { self.now.min_length ≤ result }
         ensures short { result ≤ self.now.max_length }
@@ -244,7 +244,7 @@ impl Code {
 
     /// Returns the number that the window's first `length` bits represent as a symbol.
     #[inline(always)]
-    fn symbol_number(&self, window: u64, length: usize) -> u64
+    pub(crate) fn symbol_number(&self, window: u64, length: usize) -> u64
         requires long { self.now.min_length ≤ length }
         requires short { length ≤ self.now.max_length }
         requires reaches { shifted_base self.now 64 length ≤ window }
@@ -254,18 +254,18 @@ impl Code {
         zero_symbols[length].wrapping_add(window >> (64 - length))
     }
 
-    /// Returns whether eight bits is the least length, and at most one of 32 windows begins with a longer word.
+    /// Returns whether eight bits is the least length, and at most one of 64 windows begins with a longer word.
     fn has_mostly_bytes(&self) -> bool
         ensures { IsTrue result → self.now.min_length ≡ 8 }
     {
         if self.header.min != 8 {
             return false;
         }
-        self.bases[8] <= FEW_WINDOWS
+        self.bases[8] <= LEAST_WINDOWS
     }
 
     /// Returns a bound above which each window begins with a word of eight bits, the least length, that has a symbol. The bound
-    /// is the greatest number if some such word has none, or if more than one of 32 windows begins with a longer word.
+    /// is the greatest number if some such word has none, or if more than one of 64 windows begins with a longer word.
     pub fn bytes_above(&self) -> u64
         ensures { HasBytesAbove self.now result }
     {
@@ -279,64 +279,25 @@ impl Code {
         }
     }
 
-    /// Returns the word that begins a window, given `bytes_above`. None if no symbol has it. If `TABLE`, its length is found by
-    /// the table of first bytes. If `BYTES`, eight bits are tried first: they are shifted by a constant, and nothing is compared
-    /// with the number of symbols.
+    /// Returns the symbol of the word of eight bits that begins a window above `above`, the code's `bytes_above`. It is compared
+    /// with no number of symbols.
     #[inline(always)]
-    pub(crate) fn first_word<const TABLE: bool, const BYTES: bool>(
-        &self,
-        window: u64,
-        above: u64,
-    ) -> Option<FirstWord>
-        requires { HasBytesAbove self.now above }
-        ensures found { IfSome result (IsFirstWord self.now window) }
-        ensures none { IfNone result (HasNoFirstWord self.now window) }
+    pub(crate) fn byte_symbol(&self, window: u64, above: u64) -> u16
+        requires bound { HasBytesAbove self.now above }
+        requires above { above < window }
+        ensures least { self.now.min_length ≡ 8 }
+        ensures reaches { shifted_base self.now 64 8 ≤ window }
+        ensures symbol { result ≡ symbol_at self.now 8 (window / 2 ^ 56) }
+        ensures there { result < self.now.symbols }
     {
         // A fact that the proof uses: the code is accepted.
         let _ = self.symbols();
-        if BYTES {
-            if window > above {
-                Some(FirstWord {
-                    length: 8,
-                    symbol: (self.symbol_number(window, 8) % SYMBOLS) as u16,
-                    rest: window << 8,
-                })
-            } else {
-                self.longer_word(window)
-            }
-        } else {
-            self.any_word::<TABLE>(window)
-        }
-    }
-
-    /// Returns the word that begins a window. None if no symbol has it.
-    #[inline(always)]
-    fn any_word<const TABLE: bool>(&self, window: u64) -> Option<FirstWord>
-        ensures found { IfSome result (IsFirstWord self.now window) }
-        ensures none { IfNone result (HasNoFirstWord self.now window) }
-    {
-        let length = self.reached_length::<TABLE>(window);
-        let symbol = self.symbol_of(self.symbol_number(window, length))?;
-        Some(FirstWord {
-            length: length as u64,
-            symbol,
-            rest: window << length,
-        })
-    }
-
-    /// `any_word`, by comparing. It is a function of its own, so that a loop over bytes shifts by a constant.
-    #[cold]
-    #[inline(never)]
-    fn longer_word(&self, window: u64) -> Option<FirstWord>
-        ensures found { IfSome result (IsFirstWord self.now window) }
-        ensures none { IfNone result (HasNoFirstWord self.now window) }
-    {
-        self.any_word::<false>(window)
+        (self.symbol_number(window, 8) % SYMBOLS) as u16
     }
 
     /// Returns the symbol with a number. None if the number is not below the number of symbols.
     #[inline(always)]
-    fn symbol_of(&self, number: u64) -> Option<u16>
+    pub(crate) fn symbol_of(&self, number: u64) -> Option<u16>
         ensures found { IfSome result (λ s. (s ≡ number) × (s < self.now.symbols)) }
         ensures none { IfNone result (self.now.symbols ≤ number) }
     {
@@ -348,25 +309,11 @@ impl Code {
     }
 }
 
-/// The word that begins a window.
-#[derive(Clone, Copy)]
-pub(crate) struct FirstWord {
-    /// Its length in bits.
-    pub length: u64,
-    /// Its symbol.
-    pub symbol: u16,
-    /// The window after it.
-    pub rest: u64,
-}
-
 /// Symbols have 16 bits.
 const SYMBOLS: u64 = 1 << 16;
 
 /// The end of the least of 64 equal ranges of windows.
 const LEAST_WINDOWS: u64 = 1 << 58;
-
-/// The end of the least of 32 equal ranges of windows.
-const FEW_WINDOWS: u64 = 1 << 59;
 
 /// Returns the word of a symbol, of 1 to 32 bits. None if the symbol has no word.
 pub fn word(code: &Code, s: u16) -> Option<Word>

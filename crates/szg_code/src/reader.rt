@@ -202,13 +202,22 @@ pub fn next_endless<const TABLE: bool, const BYTES: bool>(
     ensures none { IfNone result (BeginsWithNoWord code.now words.old.cursor.left) }
 {
     let window = window_of(words.bytes, words.offset, words.window, code.longest())?;
-    let word = code.first_word::<TABLE, BYTES>(window.bits, above)?;
-    words.offset += word.length;
+    if BYTES && window.bits > above {
+        words.offset += BYTE;
+        words.window = Window {
+            bits: window.bits << BYTE,
+            held: window.held,
+        };
+        return Some(code.byte_symbol(window.bits, above));
+    }
+    let length = code.reached_length::<TABLE>(window.bits);
+    let symbol = code.symbol_of(code.symbol_number(window.bits, length))?;
+    words.offset += length as u64;
     words.window = Window {
-        bits: word.rest,
+        bits: window.bits << length,
         held: window.held,
     };
-    Some(word.symbol)
+    Some(symbol)
 }
 
 /// Decodes the word at the reader's offset, moves the reader past it, and returns its symbol. None if the remaining bits do not
