@@ -200,10 +200,48 @@ pub fn value_at(code: &Code, dict: &Dict, block: &[u8], index: u64) -> u16
     requires within { index < length (values_spelled code.now dict.now (bits block.now)) }
     ensures { slice_get (values_spelled code.now dict.now (bits block.now)) index ≡ Some result }
 {
-    let Some(reached) = reach(code, dict, Bits::new(block), index) else {
+    let left = Bits::new(block);
+    if code.is_read_word_by_word() {
+        let above = code.bytes_above();
+        if above < u64::MAX {
+            return value_by_words::<true>(code, above, dict, left, index);
+        }
+        return value_by_words::<false>(code, above, dict, left, index);
+    }
+    let Some(reached) = reach(code, dict, left, index) else {
         unreachable!()
     };
     value_in(dict, reached.words, reached.index as u16)
+}
+
+/// Returns the value at `index` among those that the bits left spell, which must be more than `index`. Decodes word by word,
+/// and compares with the bytes' end nowhere.
+#[inline(always)]
+fn value_by_words<const BYTES: bool>(
+    code: &Code,
+    above: u64,
+    dict: &Dict,
+    left: Bits,
+    index: u64,
+) -> u16
+    requires accepted { IsCode code.now }
+    requires above { HasBytesAbove code.now above }
+    requires symbols { code.now.symbols ≡ length dict.now }
+    requires within { index < length (values_spelled code.now dict.now left.left) }
+    ensures { slice_get (values_spelled code.now dict.now left.entry.left) index ≡ Some result }
+{
+    let mut words = left.endless();
+    let mut ahead = index;
+    'words: loop {
+        let Some(symbol) = next_endless::<false, BYTES>(code, above, &mut words) else {
+            unreachable!()
+        };
+        let count = u64::from(dict.len(symbol));
+        if ahead < count {
+            return dict.value_at(symbol, ahead as u16);
+        }
+        ahead -= count;
+    }
 }
 
 /// Decodes the value at `index` in a block, word by word from the block's start. Returns the descent to it and the number
