@@ -22,3 +22,4 @@ pub mod Finding
 pub mod Kept
 pub mod KeptLayouts
 pub mod KeptChecks
+pub mod Ahead

@@ -1,6 +1,7 @@
 -- One or two words that contain a value among those that bits spell, and what the bits after them spell.
 use Rattle.std.specs.Prelude.{ℕ, Bool, ◌≡◌, ◌+◌, ◌-◌, ◌<◌, ◌≤◌, List, length, slice_get}
 use Rattle.szg_code.specs.Canonical.{CanonicalCode}
+use Rattle.szg_code.specs.Cursor.{EndlessCursor}
 use Rattle.szg_code.specs.NextWords.{symbols_of}
 use Rattle.szg_block.specs.Spelled.{AreBelow, values_of, values_spelled}
 use Rattle.szg_block.specs.declared.words.Reached.{Reached}
@@ -14,3 +15,10 @@ pub record IsReached (code : CanonicalCode) (entries : List (List ℕ)) (bits : 
   pub at_most : reached.index ≤ index
   pub value : slice_get (values_of entries (symbols_of reached.words)) reached.index ≡ slice_get (values_spelled code entries bits) index
   pub spelled : length (values_spelled code entries bits) ≡ (index - reached.index) + reached.count + length (values_spelled code entries reached.left.left)
+
+-- The value at `index` of all is the one at `ahead` of those that the bits left spell. A cursor past the end has left too few.
+pub record IsAhead (code : CanonicalCode) (entries : List (List ℕ)) (all : List ℕ) (index : ℕ) (left : EndlessCursor) (ahead : ℕ) : Type 0 where
+  pub at_most : ahead ≤ index
+  pub few : 0 < left.past → length all ≤ index
+  pub same : left.past ≡ 0 → slice_get (values_spelled code entries left.cursor.left) ahead ≡ slice_get all index
+  pub spelled : left.past ≡ 0 → length all ≡ (index - ahead) + length (values_spelled code entries left.cursor.left)

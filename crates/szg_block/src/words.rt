@@ -1,6 +1,6 @@
 //! The words of one block, and the values of their symbols.
 
-ghost use Rattle.std.specs.Prelude.{◌≡◌, ◌<◌, ◌≤◌, ◌+◌, ◌-◌, ◌↔◌, ◌^◌, IsTrue, IfNone, IfSome, length, take, slice_get, Some};
+ghost use Rattle.std.specs.Prelude.{ℕ, List, ◌≡◌, ◌<◌, ◌≤◌, ◌+◌, ◌-◌, ◌↔◌, ◌^◌, IsTrue, IfNone, IfSome, length, take, slice_get, Some};
 ghost use Rattle.szg_code.specs.Acceptance.{IsCode};
 ghost use Rattle.szg_code.specs.Bits.{bits};
 ghost use Rattle.szg_code.specs.Least.{HasBytesAbove};
@@ -9,10 +9,12 @@ ghost use Rattle.szg_pairs.specs.Expansion.{expansion_of};
 ghost use Rattle.szg_code.specs.Cursor.{TakesWords};
 ghost use Rattle.szg_code.specs.NextWords.{symbols_of};
 ghost use Rattle.szg_code.specs.Spelling.{BeginsWithNoWord};
-ghost use Rattle.szg_block.specs.Reached.{IsReached};
+ghost use Rattle.szg_block.specs.Reached.{IsAhead, IsReached};
 ghost use Rattle.szg_block.specs.Spelled.{AreBelow, values_of, values_spelled, word_at, pairs_above};
 
-use szg_code::{Bits, Code, EndlessBits, NextWords, next_endless, next_word_if, next_words};
+use szg_code::{
+    Bits, Code, EndlessBits, NextWords, next_byte, next_endless, next_word_if, next_words,
+};
 use szg_pairs::entry::{is_leaf, left, right};
 use szg_pairs::{Descent, Dict};
 
@@ -62,16 +64,59 @@ struct Reached<'a> {
     left: Bits<'a>,
 }
 
-/// Decodes one word, or if `TWO`, one or two; moves the reader past what it decoded, and returns the symbols. None if the
-/// bits left do not begin with a word. A single word is decoded as `next_endless` does, with the code's `bytes_above`.
+/// The number of bytes that a window holds when it has just been read.
+const WINDOW_BYTES: u64 = 7;
+
+/// Moves the reader past words of eight bits before the value at `index` of those that the bits left spell, by windows of seven,
+/// up to a longer word or the word that contains the value. Returns the value's index from there on. If not `BYTES`, no word is
+/// passed.
 #[inline(always)]
-fn step<const TWO: bool, const TABLE: bool, const BYTES: bool>(
+fn skip_bytes<const BYTES: bool>(
     code: &Code,
     above: u64,
+    dict: &Dict,
+    words: &mut EndlessBits,
+    index: u64,
+) -> u64
+    requires accepted { IsCode code.now }
+    requires above { HasBytesAbove code.now above }
+    requires symbols { code.now.symbols ≡ length dict.now }
+    ensures at_most { result ≤ index }
+    ensures ahead { (all : List ℕ) (i : ℕ) → IsAhead code.now dict.now all i words.old index → IsAhead code.now dict.now all i words.new result }
+{
+    if !BYTES {
+        return index;
+    }
+    let lengths = dict.lengths();
+    let mut ahead = index;
+    'windows: for _ in 0..u64::MAX {
+        if !words.refill() {
+            break 'windows;
+        }
+        for _ in 0..WINDOW_BYTES {
+            let mut next = words.copied();
+            let Some(symbol) = next_byte(code, above, &mut next) else {
+                break 'windows;
+            };
+            let count = u64::from(lengths[symbol as usize]);
+            if ahead < count {
+                break 'windows;
+            }
+            ahead -= count;
+            *words = next;
+        }
+    }
+    ahead
+}
+
+/// Decodes one word, or if `TWO`, one or two; moves the reader past what it decoded, and returns the symbols. None if the
+/// bits left do not begin with a word.
+#[inline(always)]
+fn step<const TWO: bool, const TABLE: bool>(
+    code: &Code,
     words: &mut EndlessBits,
 ) -> Option<NextWords>
     requires accepted { IsCode code.now }
-    requires above { HasBytesAbove code.now above }
     ensures there { IfSome result (λ taken. AreBelow code.now.symbols (symbols_of taken)) }
     ensures found { IfSome result (λ taken. words.new.past ≡ 0 → (words.old.past ≡ 0) × TakesWords code.now words.old.cursor words.new.cursor (symbols_of taken)) }
     ensures past { IfSome result (λ _. 0 < words.new.past → BeginsWithNoWord code.now words.old.cursor.left) }
@@ -83,14 +128,14 @@ fn step<const TWO: bool, const TABLE: bool, const BYTES: bool>(
         *words = bits.endless();
         return Some(taken);
     }
-    match next_endless::<TABLE, BYTES>(code, above, words) {
+    match next_endless::<TABLE>(code, words) {
         Some(symbol) => Some(NextWords::One(symbol)),
         None => None,
     }
 }
 
 /// Decodes words up to those that contain the value at `index`. None if the bits left spell too few values. Whether the last
-/// word is within the bytes is asked once, after it.
+/// word is within the bytes is asked once, after it. If `BYTES`, words of eight bits are passed by the code's `bytes_above`.
 #[inline(always)]
 fn reach_by<'a, const TWO: bool, const TABLE: bool, const BYTES: bool>(
     code: &Code,
@@ -107,7 +152,9 @@ fn reach_by<'a, const TWO: bool, const TABLE: bool, const BYTES: bool>(
 {
     let mut left = left.endless();
     let mut ahead = index;
-    while let Some(words) = step::<TWO, TABLE, BYTES>(code, above, &mut left) {
+    'words: loop {
+        ahead = skip_bytes::<BYTES>(code, above, dict, &mut left, ahead);
+        let words = step::<TWO, TABLE>(code, &mut left)?;
         let count = count_of(dict, words);
         if ahead < count {
             let left = left.within()?;
@@ -120,7 +167,28 @@ fn reach_by<'a, const TWO: bool, const TABLE: bool, const BYTES: bool>(
         }
         ahead -= count;
     }
-    None
+}
+
+/// As `reach_by`, by the code's tables of first bytes.
+#[inline(never)]
+fn reach_by_table<'a>(
+    code: &Code,
+    above: u64,
+    dict: &Dict,
+    left: Bits<'a>,
+    index: u64,
+) -> Option<Reached<'a>>
+    requires accepted { IsCode code.now }
+    requires above { HasBytesAbove code.now above }
+    requires symbols { code.now.symbols ≡ length dict.now }
+    ensures found { IfSome result (IsReached code.now dict.now left.entry.left index) }
+    ensures none { IfNone result (length (values_spelled code.now dict.now left.entry.left) ≤ index) }
+{
+    if code.has_two_words() {
+        reach_by::<true, true, false>(code, above, dict, left, index)
+    } else {
+        reach_by::<false, true, false>(code, above, dict, left, index)
+    }
 }
 
 /// As `reach_by`, in the way that is quickest for the code.
@@ -136,10 +204,8 @@ fn reach<'a>(code: &Code, dict: &Dict, left: Bits<'a>, index: u64) -> Option<Rea
         reach_by::<false, false, true>(code, above, dict, left, index)
     } else if code.is_read_word_by_word() {
         reach_by::<false, false, false>(code, above, dict, left, index)
-    } else if code.has_two_words() {
-        reach_by::<true, true, false>(code, above, dict, left, index)
     } else {
-        reach_by::<false, true, false>(code, above, dict, left, index)
+        reach_by_table(code, above, dict, left, index)
     }
 }
 
@@ -179,6 +245,25 @@ pub(crate) fn find_verified(
     Some(value_in(dict, reached.words, reached.index as u16))
 }
 
+/// Returns the value at `index` among those that the bits left spell, decoded word by word. None if they spell too few.
+#[inline(never)]
+fn find_by_words<const BYTES: bool>(
+    code: &Code,
+    above: u64,
+    dict: &Dict,
+    left: Bits,
+    index: u64,
+) -> Option<u16>
+    requires accepted { IsCode code.now }
+    requires above { HasBytesAbove code.now above }
+    requires symbols { code.now.symbols ≡ length dict.now }
+    ensures value { IfSome result (λ value. slice_get (values_spelled code.now dict.now left.entry.left) index ≡ Some value) }
+    ensures none { IfNone result (length (values_spelled code.now dict.now left.entry.left) ≤ index) }
+{
+    let reached = reach_by::<false, false, BYTES>(code, above, dict, left, index)?;
+    Some(value_in(dict, reached.words, reached.index as u16))
+}
+
 /// Returns the value at `index` in a block, of which no more words are decoded than up to the value. None if the block's
 /// bits spell no more than `index` values. It relies on nothing that they spell.
 pub(crate) fn find_up_to(code: &Code, dict: &Dict, block: &[u8], index: u64) -> Option<u16>
@@ -188,7 +273,14 @@ pub(crate) fn find_up_to(code: &Code, dict: &Dict, block: &[u8], index: u64) -> 
     ensures value { IfSome result (λ value. slice_get (values_spelled code.now dict.now (bits block.now)) index ≡ Some value) }
     ensures none { IfNone result (length (values_spelled code.now dict.now (bits block.now)) ≤ index) }
 {
-    let reached = reach(code, dict, Bits::new(block), index)?;
+    let (left, above) = (Bits::new(block), code.bytes_above());
+    if above < u64::MAX {
+        return find_by_words::<true>(code, above, dict, left, index);
+    }
+    if code.is_read_word_by_word() {
+        return find_by_words::<false>(code, above, dict, left, index);
+    }
+    let reached = reach_by_table(code, above, dict, left, index)?;
     Some(value_in(dict, reached.words, reached.index as u16))
 }
 
@@ -200,48 +292,10 @@ pub fn value_at(code: &Code, dict: &Dict, block: &[u8], index: u64) -> u16
     requires within { index < length (values_spelled code.now dict.now (bits block.now)) }
     ensures { slice_get (values_spelled code.now dict.now (bits block.now)) index ≡ Some result }
 {
-    let left = Bits::new(block);
-    if code.is_read_word_by_word() {
-        let above = code.bytes_above();
-        if above < u64::MAX {
-            return value_by_words::<true>(code, above, dict, left, index);
-        }
-        return value_by_words::<false>(code, above, dict, left, index);
-    }
-    let Some(reached) = reach(code, dict, left, index) else {
+    let Some(value) = find_up_to(code, dict, block, index) else {
         unreachable!()
     };
-    value_in(dict, reached.words, reached.index as u16)
-}
-
-/// Returns the value at `index` among those that the bits left spell, which must be more than `index`. Decodes word by word,
-/// and compares with the bytes' end nowhere.
-#[inline(always)]
-fn value_by_words<const BYTES: bool>(
-    code: &Code,
-    above: u64,
-    dict: &Dict,
-    left: Bits,
-    index: u64,
-) -> u16
-    requires accepted { IsCode code.now }
-    requires above { HasBytesAbove code.now above }
-    requires symbols { code.now.symbols ≡ length dict.now }
-    requires within { index < length (values_spelled code.now dict.now left.left) }
-    ensures { slice_get (values_spelled code.now dict.now left.entry.left) index ≡ Some result }
-{
-    let mut words = left.endless();
-    let mut ahead = index;
-    'words: loop {
-        let Some(symbol) = next_endless::<false, BYTES>(code, above, &mut words) else {
-            unreachable!()
-        };
-        let count = u64::from(dict.len(symbol));
-        if ahead < count {
-            return dict.value_at(symbol, ahead as u16);
-        }
-        ahead -= count;
-    }
+    value
 }
 
 /// Decodes the value at `index` in a block, word by word from the block's start. Returns the descent to it and the number

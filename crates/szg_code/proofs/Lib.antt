@@ -16,3 +16,4 @@ pub mod Prefixes
 pub mod Buffers
 pub mod TwoWords
 pub mod FirstWords
+pub mod WindowWords

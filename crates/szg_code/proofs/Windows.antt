@@ -143,7 +143,7 @@ window_bits-take left e l room inside =
     let a : length (padded (64 - e) left) ≡ 64 - e = length-padded (64 - e) left in
     take-append-le l (padded (64 - e) left) (replicate e false) (omega arith) ∙ take-padded l (64 - e) left (omega arith) inside
 
-module _ (code : CanonicalCode) (accepted : IsCode code) (bytes : List ℕ) (offset window e : ℕ) (r : IsWindow bytes offset window e) (room : code.max_length + e ≤ 64) where
+module _ (code : CanonicalCode) (accepted : IsCode code) (bytes : List ℕ) (offset window e : ℕ) (r : IsWindow bytes offset window e) where
   -- the length at the first base that the window reaches
   least_of_window : (l : ℕ) → code.min_length ≤ l → l ≤ code.max_length → shifted_base code 64 l ≤ window →
       ((k : ℕ) → code.min_length ≤ k → k < l → window < shifted_base code 64 k) → IsLeastLength code (window_bits (drop offset (bits bytes)) e) l
@@ -170,16 +170,16 @@ module _ (code : CanonicalCode) (accepted : IsCode code) (bytes : List ℕ) (off
       }
 
   -- it is the least length of the bits left, if there are enough of them
-  pub IsLeastLength-of_window : (l : ℕ) → code.min_length ≤ l → l ≤ code.max_length → shifted_base code 64 l ≤ window →
+  pub IsLeastLength-of_window : (l : ℕ) → l + e ≤ 64 → code.min_length ≤ l → l ≤ code.max_length → shifted_base code 64 l ≤ window →
       ((k : ℕ) → code.min_length ≤ k → k < l → window < shifted_base code 64 k) → l ≤ length (drop offset (bits bytes)) → IsLeastLength code (drop offset (bits bytes)) l
-  IsLeastLength-of_window l long short reaches before inside =
+  IsLeastLength-of_window l room long short reaches before inside =
       let left : List Bool = drop offset (bits bytes) in
       least_length_of_window code (window_bits left e) left l (least_of_window l long short reaches before) inside (window_bits-take left e l (omega arith) inside)
 
   -- and if there are fewer, they reach no base
-  pub ReachesNoBase-of_window : (l : ℕ) → code.min_length ≤ l → l ≤ code.max_length → shifted_base code 64 l ≤ window →
+  pub ReachesNoBase-of_window : (l : ℕ) → l + e ≤ 64 → code.min_length ≤ l → l ≤ code.max_length → shifted_base code 64 l ≤ window →
       ((k : ℕ) → code.min_length ≤ k → k < l → window < shifted_base code 64 k) → length (drop offset (bits bytes)) < l → ReachesNoBase code (drop offset (bits bytes))
-  ReachesNoBase-of_window l long short reaches before past =
+  ReachesNoBase-of_window l room long short reaches before past =
       let left : List Bool = drop offset (bits bytes) in
       no_base_of_window code (window_bits left e) left l (least_of_window l long short reaches before) past
       (window_bits-take left e (length left) (omega arith) (omega arith) ∙ take_all (length left) left (omega arith))
@@ -197,12 +197,12 @@ number-of_window bytes offset window e l r room inside =
     sym t' ∙ ap (λ (u : List Bool). number u) (window_bits-take left e l room inside)
 
 -- the bits left begin at the offset, and the window decides the length and the symbol of their first word
-pub decided : (code : CanonicalCode) → IsCode code → (bytes : List ℕ) (offset window e : ℕ) → IsWindow bytes offset window e → code.max_length + e ≤ 64 → (left : List Bool) → drop offset (bits bytes) ≡ left → (l : ℕ) → code.min_length ≤ l → l ≤ code.max_length →
+pub decided : (code : CanonicalCode) → IsCode code → (bytes : List ℕ) (offset window e : ℕ) → IsWindow bytes offset window e → (left : List Bool) → drop offset (bits bytes) ≡ left → (l : ℕ) → l + e ≤ 64 → code.min_length ≤ l → l ≤ code.max_length →
     shifted_base code 64 l ≤ window → ((k : ℕ) → code.min_length ≤ k → k < l → window < shifted_base code 64 k) → l ≤ length left →
     IsLeastLength code left l × (symbol_at code l (window / 2 ^ (64 - l)) ≡ symbol_of_prefix code left l)
-decided code accepted bytes offset window e r room left is l long short reaches before inside =
+decided code accepted bytes offset window e r left is l room long short reaches before inside =
     let inside' : l ≤ length (drop offset (bits bytes)) = rw is inside in
-    let h = IsLeastLength-of_window code accepted bytes offset window e r room l long short reaches before inside' in
+    let h = IsLeastLength-of_window code accepted bytes offset window e r l room long short reaches before inside' in
     let v = number-of_window bytes offset window e l r (omega arith) inside' in
     let s = symbol_of_prefix-is code (drop offset (bits bytes)) l (window / 2 ^ (64 - l)) v in
     (subst (λ (u : List Bool). IsLeastLength code u l) is h, s ∙ ap (λ (u : List Bool). symbol_of_prefix code u l) is)

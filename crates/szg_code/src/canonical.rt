@@ -282,9 +282,10 @@ impl Code {
     /// Returns the symbol of the word of eight bits that begins a window above `above`, the code's `bytes_above`. It is compared
     /// with no number of symbols.
     #[inline(always)]
-    pub(crate) fn byte_symbol(&self, window: u64, above: u64) -> u16
+    pub(crate) fn byte_symbol(&self, window: u64, above: u64) -> u64
         requires bound { HasBytesAbove self.now above }
         requires above { above < window }
+        ensures accepted { IsCode self.now }
         ensures least { self.now.min_length ≡ 8 }
         ensures reaches { shifted_base self.now 64 8 ≤ window }
         ensures symbol { result ≡ symbol_at self.now 8 (window / 2 ^ 56) }
@@ -292,7 +293,7 @@ impl Code {
     {
         // A fact that the proof uses: the code is accepted.
         let _ = self.symbols();
-        (self.symbol_number(window, 8) % SYMBOLS) as u16
+        self.symbol_number(window, 8)
     }
 
     /// Returns the symbol with a number. None if the number is not below the number of symbols.
@@ -308,9 +309,6 @@ impl Code {
         }
     }
 }
-
-/// Symbols have 16 bits.
-const SYMBOLS: u64 = 1 << 16;
 
 /// The end of the least of 64 equal ranges of windows.
 const LEAST_WINDOWS: u64 = 1 << 58;

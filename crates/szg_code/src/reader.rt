@@ -69,6 +69,18 @@ impl<'a> EndlessBits<'a> {
         }
     }
 
+    /// Reads the window anew, so that it holds seven bytes or more, with zeros past the end. Returns whether there is a byte.
+    #[inline(always)]
+    pub fn refill(&mut self) -> bool
+        ensures { self.new ≡ self.old }
+    {
+        let Some(window) = fresh_window(self.bytes, self.offset) else {
+            return false;
+        };
+        self.window = window;
+        true
+    }
+
     /// Returns the reader, which from now on stays within its bytes. None if it has moved past their end.
     #[inline(always)]
     pub fn within(self) -> Option<Bits<'a>>
@@ -164,6 +176,20 @@ fn read_u64_at(bytes: &[u8], at: usize) -> Option<u64>
     Some(BigEndian::read_u64(&bytes[last..]) << (8 * (at - last)))
 }
 
+/// Reads a window from bit `offset` on. None if no bits are left to be read.
+#[inline(always)]
+fn fresh_window(bytes: &[u8], offset: u64) -> Option<Window>
+    requires { length bytes.now ≤ 2 ^ 60 }
+    ensures valid { IfSome result (λ window. IsWordReader bytes.now offset window.bits window.held) }
+    ensures held { IfSome result (λ window. window.held ≡ 57) }
+    ensures none { IfNone result (8 * length bytes.now ≤ offset) }
+{
+    Some(Window {
+        bits: read_u64_at(bytes, (offset / 8) as usize)? << (offset % 8),
+        held: FRESH,
+    })
+}
+
 /// Returns a window from bit `offset` on that holds `count` bits more than its `held` says: the given one, or one that is read
 /// anew. None if no bits are left to be read.
 #[inline(always)]
@@ -179,37 +205,24 @@ fn window_of(bytes: &[u8], offset: u64, window: Window, count: u64) -> Option<Wi
             held: window.held - count,
         });
     }
+    let window = fresh_window(bytes, offset)?;
     Some(Window {
-        bits: read_u64_at(bytes, (offset / 8) as usize)? << (offset % 8),
-        held: FRESH - count,
+        bits: window.bits,
+        held: window.held - count,
     })
 }
 
 /// Decodes the word at the reader's offset, moves the reader past it, and returns its symbol. None if the remaining bits do not
 /// begin with a word. If the bytes end within the word, zeros complete it, and the reader has moved past the end. If `TABLE`, a
-/// word's length is found by the code's table of first bytes, else by comparing. If `BYTES`, it is first compared with `above`,
-/// the code's `bytes_above`.
+/// word's length is found by the code's table of first bytes, else by comparing.
 #[inline(always)]
-pub fn next_endless<const TABLE: bool, const BYTES: bool>(
-    code: &Code,
-    above: u64,
-    words: &mut EndlessBits,
-) -> Option<u16>
-    requires { HasBytesAbove code.now above }
+pub fn next_endless<const TABLE: bool>(code: &Code, words: &mut EndlessBits) -> Option<u16>
     ensures there { IfSome result (λ s. s < code.now.symbols) }
     ensures found { IfSome result (λ s. words.new.past ≡ 0 → (words.old.past ≡ 0) × TakesWord code.now words.old.cursor words.new.cursor s) }
     ensures past { IfSome result (λ _. 0 < words.new.past → BeginsWithNoWord code.now words.old.cursor.left) }
     ensures none { IfNone result (BeginsWithNoWord code.now words.old.cursor.left) }
 {
     let window = window_of(words.bytes, words.offset, words.window, code.longest())?;
-    if BYTES && window.bits > above {
-        words.offset += BYTE;
-        words.window = Window {
-            bits: window.bits << BYTE,
-            held: window.held,
-        };
-        return Some(code.byte_symbol(window.bits, above));
-    }
     let length = code.reached_length::<TABLE>(window.bits);
     let symbol = code.symbol_of(code.symbol_number(window.bits, length))?;
     words.offset += length as u64;
@@ -218,6 +231,29 @@ pub fn next_endless<const TABLE: bool, const BYTES: bool>(
         held: window.held,
     };
     Some(symbol)
+}
+
+/// Decodes the word of eight bits at the reader's offset, if its window holds it and is above `above`, the code's
+/// `bytes_above`; moves the reader past it, and returns its symbol. Otherwise None, and the reader does not move. As with
+/// `next_endless`, it may move past the end.
+#[inline(always)]
+pub fn next_byte(code: &Code, above: u64, words: &mut EndlessBits) -> Option<u64>
+    requires { HasBytesAbove code.now above }
+    ensures there { IfSome result (λ s. s < code.now.symbols) }
+    ensures found { IfSome result (λ s. words.new.past ≡ 0 → (words.old.past ≡ 0) × TakesWord code.now words.old.cursor words.new.cursor s) }
+    ensures past { IfSome result (λ _. 0 < words.new.past → BeginsWithNoWord code.now words.old.cursor.left) }
+    ensures none { IfNone result (words.new ≡ words.old) }
+{
+    let window = words.window;
+    if window.held < BYTE || window.bits <= above {
+        return None;
+    }
+    words.offset += BYTE;
+    words.window = Window {
+        bits: window.bits << BYTE,
+        held: window.held - BYTE,
+    };
+    Some(code.byte_symbol(window.bits, above))
 }
 
 /// Decodes the word at the reader's offset, moves the reader past it, and returns its symbol. None if the remaining bits do not
@@ -229,7 +265,7 @@ pub fn next_word_if<const TABLE: bool>(code: &Code, words: &mut Bits) -> Option<
     ensures none { IfNone result (BeginsWithNoWord code.now words.old.left × (words.new ≡ words.old)) }
 {
     let mut moved = words.reader.copied();
-    let symbol = next_endless::<TABLE, false>(code, u64::MAX, &mut moved)?;
+    let symbol = next_endless::<TABLE>(code, &mut moved)?;
     *words = moved.within()?;
     Some(symbol)
 }

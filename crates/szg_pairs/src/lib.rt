@@ -1,7 +1,7 @@
 //! Pair dictionaries of Syzygy tables: each symbol is a single value or a pair of symbols.
 #![tactic(auto)]
 
-ghost use Rattle.std.specs.Prelude.{◌≡◌, ◌<◌, ◌≤◌, ◌⊎◌, length, slice_get, ℕ, Some, IfOk, IfErr, IsErrOf, MatchOption};
+ghost use Rattle.std.specs.Prelude.{◌≡◌, ◌<◌, ◌≤◌, ◌⊎◌, length, slice_get, slice_index, ℕ, Some, IfOk, IfErr, IsErrOf, MatchOption};
 ghost use Rattle.szg_pairs.specs.Expansion.{expansion_of, depths_of};
 ghost use Rattle.szg_pairs.specs.Dictionary.{FailsFirst, IsDictionary, IsDictionaryFault};
 ghost use Rattle.szg_pairs.specs.Entry.{NamesSymbols};
@@ -125,6 +125,14 @@ impl Dict {
         ensures at_most { result ≤ 256 }
     {
         self.lengths[s as usize]
+    }
+
+    /// Returns the numbers of values of the symbols, 1 to 256 each.
+    pub fn lengths(&self) -> &[u16]
+        ensures number { length result.now ≡ length self.now }
+        ensures each { (s : ℕ) → s < length self.now → slice_index result.now s ≡ length (expansion_of self.now s) }
+    {
+        &self.lengths
     }
 
     /// Returns value `i` of symbol `s`, 0 to 4,095, by a descent.

@@ -1,11 +1,7 @@
-use Rattle.std.proofs.Common.{◌≡◌, refl, subst, ap, ◌∙◌, arith}
+use Rattle.std.proofs.Common.{◌≡◌, refl, subst, ap, ◌∙◌}
 use Rattle.szg_code.specs.Cursor.{Cursor, EndlessCursor}
 use Rattle.szg_code.specs.Spelling.{BeginsWithNoWord}
 use Rattle.szg_code.proofs.reader.next_word_if.Goals as goal
-
--- no window is above the bound
-pub next_endless-requires : goal.next_endless-requires
-next_endless-requires g c window above fits = absurd (omega (arith, above, fits))
 
 pub returns-in_err-symbol-clause-none : goal.returns-in_err-symbol-clause-none
 returns-in_err-symbol-clause-none g c =

@@ -1,5 +1,5 @@
 use Rattle.std.proofs.Common.{◌+◌, ◌-◌, arith}
-use Rattle.szg_code.proofs.Windows.{HoldsBits-read, HoldsBits-fewer}
+use Rattle.szg_code.proofs.Windows.{HoldsBits-fewer}
 use Rattle.szg_code.proofs.reader.window_of.Goals as goal
 
 pub returns-then-window-count-clause-valid : goal.returns-then-window-count-clause-valid
@@ -13,9 +13,11 @@ returns-then-window-count-clause-valid c =
 
 pub returns-clause-valid : goal.returns-clause-valid
 returns-clause-valid c =
-    let some = c.in_ok-read_u64_at.ensures.some in
+    let valid = c.in_ok-window.ensures.valid in
+    let near = valid.near in
+    let held = c.in_ok-window.ensures.held in
     record {
-      fits = c.requires.valid.fits;
-      near = omega (arith, some, c.requires.few);
-      holds = HoldsBits-fewer c.args.bytes.now c.args.offset _ 57 _ (HoldsBits-read c.args.bytes.now c.args.offset c.in_ok-read_u64_at.field-0 c.in_ok-read_u64_at.ensures.number) (omega arith);
+      fits = valid.fits;
+      near = omega (arith, near, held, c.requires.few);
+      holds = HoldsBits-fewer c.args.bytes.now c.args.offset c.in_ok-window.window.bits c.in_ok-window.window.held _ valid.holds (omega (arith, held, c.requires.few));
     }

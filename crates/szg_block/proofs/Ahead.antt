@@ -1,0 +1,43 @@
+-- Where the value at an index is, after words are passed.
+use Rattle.std.proofs.Common.{ℕ, ◌≡◌, ◌-◌, ◌<◌, ◌≤◌, inl, inr, List, ◌++◌, length, ap, sym, ◌∙◌, arith, length-append}
+use Rattle.std.specs.List.{slice_get}
+use Rattle.std.proofs.lemmas.Bool.{cases_lt}
+use Rattle.szg_code.specs.Canonical.{CanonicalCode}
+use Rattle.szg_code.specs.Cursor.{EndlessCursor}
+use Rattle.szg_code.specs.Spelling.{BeginsWithNoWord}
+use Rattle.szg_block.specs.Reached.{IsAhead}
+use Rattle.szg_block.specs.Spelled.{values_spelled}
+use Rattle.szg_block.proofs.Spelling.{values_spelled-none}
+use Rattle.szg_block.proofs.Joined.{slice_get-append_after}
+
+module _ (code : CanonicalCode) (entries : List (List ℕ)) (all : List ℕ) (index : ℕ) (old : EndlessCursor) (ahead : ℕ) (is : IsAhead code entries all index old ahead) where
+  -- if no word begins the bits left, all are too few
+  pub few_values : BeginsWithNoWord code old.cursor.left → length all ≤ index
+  few_values none =
+      elim (cases_lt 0 old.past) [
+        | inl past ↦ is.few past
+        | inr within ↦
+            let e = values_spelled-none code entries old.cursor.left none in
+            let n = is.spelled (omega (arith, within)) in
+            omega (arith, is.at_most, ap (λ u. length u) e, n)
+      ]
+
+  -- words are passed whose values all come before it
+  pub passed : (new : EndlessCursor) (xs : List ℕ) (count : ℕ) → count ≡ length xs → count ≤ ahead →
+      (new.past ≡ 0 → (old.past ≡ 0) × (values_spelled code entries old.cursor.left ≡ xs ++ values_spelled code entries new.cursor.left)) →
+      (0 < new.past → BeginsWithNoWord code old.cursor.left) → IsAhead code entries all index new (ahead - count)
+  passed new xs count l over taken none =
+      let ys : List ℕ = values_spelled code entries new.cursor.left in
+      let over' : length xs ≤ ahead = omega (arith, l, over) in
+      record {
+        at_most = omega (arith, is.at_most);
+        few = λ past. few_values (none past);
+        same = λ inside.
+            let t = taken inside in
+            ap (λ k. slice_get ys (ahead - k)) l ∙ sym (slice_get-append_after xs ys ahead over') ∙ ap (λ u. slice_get u ahead) (sym t.1) ∙ is.same t.0;
+        spelled = λ inside.
+            let t = taken inside in
+            let n = ap (λ u. length u) t.1 ∙ length-append xs ys in
+            let before = is.spelled t.0 in
+            omega (arith, n, l, over, is.at_most, before);
+      }
