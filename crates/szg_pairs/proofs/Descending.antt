@@ -1,17 +1,19 @@
 -- The descent through the pairs of an accepted dictionary.
-use Rattle.std.proofs.Common.{ℕ, zero, suc, map, true, false, ◌≡◌, ◌+◌, ◌*◌, ◌-◌, ◌<◌, ◌≤◌, List, [], ◌∷◌, ◌++◌, Some, length, refl, ap, sym, ◌∙◌, subst, arith, length-append, get_or, append_assoc, append-nil}
+use Rattle.std.proofs.Common.{ℕ, zero, suc, map, Bool, true, false, ◌≡◌, ◌==◌, ◌+◌, ◌*◌, ◌-◌, ◌<◌, ◌≤◌, List, [], ◌∷◌, ◌++◌, Some, length, refl, ap, sym, ◌∙◌, subst, arith, length-append, get_or, append_assoc, append-nil}
 use Rattle.std.specs.List.{slice_get}
-use Rattle.std.proofs.lemmas.Option.{slice_get-get_or, slice_get_read}
-use Rattle.std.proofs.lemmas.List.{get_or_append_left, get_or-append_right, get_or_read}
+use Rattle.std.specs.Option.{option_map}
+use Rattle.std.proofs.lemmas.Option.{slice_get-get_or, slice_get-map, slice_get_read}
+use Rattle.std.proofs.lemmas.List.{get_or_append_left, get_or-append_right, get_or_read, length-map}
 use Rattle.szg_pairs.specs.Entry.{left_of, right_of, is_leaf}
 use Rattle.szg_pairs.specs.Expansion.{Expands, leaf, pair, expansion_of, depths_within, depths_of}
 use Rattle.szg_pairs.specs.Dictionary.{IsDictionary}
-use Rattle.szg_pairs.specs.State.{IsDictState, IsDescent, stack_values, steps_left}
+use Rattle.szg_pairs.specs.State.{entry_of, node_of, split_of, IsDictState, IsDescent, stack_values, steps_left}
+use Rattle.szg_pairs.specs.declared.nodes.Node.{Node}
 use Rattle.szg_pairs.proofs.Expanding.{length-depths_of, depths_of-below, Expands-length, Expands-expansion_of, AllBelow, AllBelow-push, AllBelow-pop}
 use Rattle.szg_pairs.proofs.Accepting.{symbol_of_dictionary, Expands-there}
 
 -- the lengths as `Dict` reads them
-pub length_read_back : (entries value : List (List ℕ)) (lengths : List ℕ) (s n : ℕ) → IsDictState entries lengths → entries ≡ value → s < length value → n ≡ get_or lengths s n →
+pub length_read_back : {nodes : List Node} (entries value : List (List ℕ)) (lengths : List ℕ) (s n : ℕ) → IsDictState entries nodes lengths → entries ≡ value → s < length value → n ≡ get_or lengths s n →
     (n ≡ length (expansion_of value s)) × (1 ≤ n) × (n ≤ 256)
 length_read_back entries value lengths s n state same there read =
     let there_too : s < length entries = subst (λ (v : List (List ℕ)). s < length v) (sym same) there in
@@ -179,11 +181,29 @@ module _ (entries : List (List ℕ)) where
 
   -- ---- a look-up's steps
 
-  pub entry_read : (s : ℕ) (entry : List ℕ) → s < length entries → entry ≡ get_or entries s entry → slice_get entries s ≡ Some entry
-  entry_read s entry there read = slice_get_read entries (length entries) s entry refl there read
+  -- what the node of a symbol says of its entry
+  pub record IsNodeAt (s : ℕ) (node : Node) : Type 0 where
+    pub at : slice_get entries s ≡ Some (entry_of node)
+    pub left : node.left ≡ left_of (entry_of node)
+    pub right : node.right ≡ right_of (entry_of node)
+    pub leaf : (node.right == 4095) ≡ is_leaf (entry_of node)
+    pub split : is_leaf (entry_of node) ≡ false → node.split ≡ length (expansion_of entries (left_of (entry_of node)))
 
-  pub length_read : (lengths : List ℕ) (s n : ℕ) → IsDictState entries lengths → s < length entries → n ≡ get_or lengths s n → n ≡ length (expansion_of entries s)
-  length_read lengths s n state there read = (length_read_back entries entries lengths s n state refl there read).0
+  pub node_read : {nodes : List Node} {lengths : List ℕ} → IsDictState entries nodes lengths → entries ≡ map entry_of nodes → (s : ℕ) (node : Node) → s < length entries → node ≡ get_or nodes s node → IsNodeAt s node
+  unfolding node_of is_leaf
+  node_read {nodes} {lengths} state same s node there read =
+      let many : length entries ≡ length nodes = ap length same ∙ length-map nodes entry_of in
+      let held : slice_get nodes s ≡ Some node = slice_get_read nodes (length nodes) s node refl (omega (arith, there, many)) read in
+      let at : slice_get entries s ≡ Some (entry_of node) = ap (λ (v : List (List ℕ)). slice_get v s) same ∙ slice_get-map entry_of nodes s ∙ ap (option_map entry_of) held in
+      let twice : Some node ≡ Some (node_of lengths (entry_of node)) = sym held ∙ ap (λ (v : List Node). slice_get v s) state.same_nodes ∙ slice_get-map (node_of lengths) entries s ∙ ap (option_map (node_of lengths)) at in
+      let is : node ≡ node_of lengths (entry_of node) = cc in
+      record {
+        at = at;
+        left = ap (λ (n : Node). n.left) is;
+        right = ap (λ (n : Node). n.right) is;
+        leaf = ap (λ (n : Node). n.right == 4095) is;
+        split = λ paired. ap (λ (n : Node). n.split) is ∙ ap (λ (leaf : Bool). split_of leaf lengths (entry_of node)) paired ∙ state.each (left_of (entry_of node)) (pair_at state.dictionary s (entry_of node) there at paired).left_there;
+      }
 
   pub value_found : IsDictionary entries → (s i t k pairs : ℕ) (entry : List ℕ) → IsDescent entries s i t k pairs → slice_get entries t ≡ Some entry → is_leaf entry ≡ true →
       slice_get (expansion_of entries s) i ≡ Some (left_of entry)

@@ -1,10 +1,11 @@
 -- From the lengths of all symbols to the first fault, or to an accepted dictionary.
-use Rattle.std.proofs.Common.{ℕ, ◌≡◌, ◌<◌, ◌≤◌, inl, inr, List, length, get_or, sym, ◌∙◌, ap, arith}
+use Rattle.std.proofs.Common.{ℕ, ◌≡◌, ◌<◌, ◌≤◌, inl, inr, List, length, map, get_or, sym, ◌∙◌, ap, arith}
 use Rattle.std.proofs.lemmas.Bool.{cases_lt}
 use Rattle.szg_pairs.specs.Expansion.{Expands}
 use Rattle.szg_pairs.specs.Dictionary.{FailsFirst, HasExpansion, HasShortExpansion}
 use Rattle.szg_pairs.specs.Walk.{AreLengths}
-use Rattle.szg_pairs.specs.State.{IsDictState}
+use Rattle.szg_pairs.specs.State.{node_of, IsDictState}
+use Rattle.szg_pairs.specs.declared.nodes.Node.{Node}
 use Rattle.szg_pairs.proofs.Expanding.{Expands-unique, Expands-expansion_of}
 
 -- s is the first index of the list whose number has the property P
@@ -60,8 +61,8 @@ module _ (entries : List (List ℕ)) (lengths : List ℕ) (found : AreLengths en
   abbrev AllShort : Type 0
   AllShort = (s : ℕ) → s < length lengths → get_or lengths s 0 ≤ 256
 
-  pub dict_state : AllKnown → AllShort → length entries ≤ 65535 → IsDictState entries lengths
-  dict_state known short few =
+  pub dict_state : AllKnown → AllShort → length entries ≤ 65535 → (nodes : List Node) → nodes ≡ map (node_of lengths) entries → IsDictState entries nodes lengths
+  dict_state known short few nodes same_nodes =
       let many : length lengths ≡ length entries = found.same_length in
       record {
         dictionary = λ s there. let x = short_at known s there (short s (omega (arith, there, many))) in (x.0, x.1, x.2);
@@ -70,4 +71,5 @@ module _ (entries : List (List ℕ)) (lengths : List ℕ) (found : AreLengths en
         each = λ s there.
             let x = short_at known s there (short s (omega (arith, there, many))) in
             x.3 ∙ ap length (sym (Expands-expansion_of entries s x.0 x.1 x.2));
+        same_nodes = same_nodes;
       }

@@ -5,5 +5,6 @@ pub mod FirstFound
 pub mod Deciding
 pub mod Finding
 pub mod Walking
+pub mod Bytes
 pub mod Descending
 pub mod Judging

@@ -1,15 +1,35 @@
 -- The invariant of a dictionary, and the state of a descent and of an expansion.
-use Rattle.std.specs.Prelude.{ℕ, ◌≡◌, ◌+◌, ◌*◌, ◌-◌, ◌<◌, ◌≤◌, List, [], ◌∷◌, ◌++◌, length, slice_get, slice_index}
+use Rattle.std.specs.Prelude.{ℕ, Bool, true, false, ◌≡◌, ◌+◌, ◌*◌, ◌-◌, ◌/◌, ◌%◌, ◌<◌, ◌≤◌, List, [], ◌∷◌, ◌++◌, length, map, slice_get, slice_index}
+use Rattle.szg_pairs.specs.Entry.{left_of, right_of, is_leaf}
 use Rattle.szg_pairs.specs.Expansion.{expansion_of, depths_of}
 use Rattle.szg_pairs.specs.Dictionary.{IsDictionary}
+use Rattle.szg_pairs.specs.declared.nodes.Node.{Node}
 
--- the entries are an accepted dictionary of at most 65,535 symbols, and the lengths are those of the symbols'
--- expansions
-pub record IsDictState (entries : List (List ℕ)) (lengths : List ℕ) : Type 0 where
+-- the length of the left symbol of a pair, 0 for a leaf
+abbrev pub split_of : Bool → List ℕ → List ℕ → ℕ
+split_of true lengths entry = 0
+split_of false lengths entry = slice_index lengths (left_of entry)
+
+-- the node of an entry, where symbol s has slice_index lengths s values
+unfoldable pub node_of : List ℕ → List ℕ → Node
+node_of lengths entry = record { left = left_of entry; right = right_of entry; split = split_of (is_leaf entry) lengths entry }
+
+-- the three bytes of 24 bits, the lowest first
+abbrev pub bytes_of : ℕ → List ℕ
+bytes_of bits = (bits % 256) ∷ (bits / 256 % 256) ∷ (bits / 65536 % 256) ∷ []
+
+-- the entry of a node: the left number is the low 12 of the 24 bits, the right number the high 12
+unfoldable pub entry_of : Node → List ℕ
+entry_of node = bytes_of (node.left + 4096 * node.right)
+
+-- the entries are an accepted dictionary of at most 65,535 symbols, the lengths are those of the symbols' expansions,
+-- and the nodes are those of the entries
+pub record IsDictState (entries : List (List ℕ)) (nodes : List Node) (lengths : List ℕ) : Type 0 where
   pub dictionary : IsDictionary entries
   pub few : length entries ≤ 65535
   pub same_length : length lengths ≡ length entries
   pub each : (s : ℕ) → s < length entries → slice_index lengths s ≡ length (expansion_of entries s)
+  pub same_nodes : nodes ≡ map (node_of lengths) entries
 
 -- the values of the symbols on a stack, from its top; the top is the last item of the list
 abbrev pub stack_values : List (List ℕ) → List ℕ → List ℕ

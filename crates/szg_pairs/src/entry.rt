@@ -6,7 +6,7 @@ ghost use Rattle.szg_pairs.specs.Entry.{left_of, right_of, is_leaf, names_symbol
 use byteorder::{ByteOrder, LittleEndian};
 
 /// The right number of a leaf. It is not a symbol.
-const LEAF: u16 = 0xfff;
+pub(crate) const LEAF: u16 = 0xfff;
 
 /// Returns the left number of an entry, 0 to 4095: a leaf's value, or the first symbol of a pair. These are the low
 /// 12 of the 24 bits, as the probing code reads them (`lr[0] | (lr[1] & 0xf) << 8`).

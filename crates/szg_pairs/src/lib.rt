@@ -6,13 +6,15 @@ ghost use Rattle.szg_pairs.specs.Expansion.{expansion_of, depths_of};
 ghost use Rattle.szg_pairs.specs.Dictionary.{FailsFirst, IsDictionary, IsDictionaryFault};
 ghost use Rattle.szg_pairs.specs.Entry.{NamesSymbols};
 
-use entry::{is_leaf, left, names_symbols_below, right};
+use entry::names_symbols_below;
+use nodes::{Node, find_nodes};
 use std::alloc::{AllocError, Global};
 use std::marker::Model;
 use walk::find_lengths;
 
 pub mod entry;
 pub mod laws;
+mod nodes;
 mod walk;
 
 /// Why a dictionary is refused, with the least faulty symbol.
@@ -55,19 +57,20 @@ pub struct Descent {
 /// calls the entries `symPat` and the lengths, less one, `symLen`.
 #[derive(Drop)]
 pub struct Dict {
-    entries: Vec<[u8; 3]>,
+    nodes: Vec<Node>,
+    /// The number of values of each symbol. A list of its own, since decoding reads it for each word.
     lengths: Vec<u16>,
 }
 
 impl Model for Dict {
-    ghost use Rattle.std.specs.Prelude.{ℕ, List};
-    ghost use Rattle.szg_pairs.specs.State.{IsDictState};
+    ghost use Rattle.std.specs.Prelude.{ℕ, List, map};
+    ghost use Rattle.szg_pairs.specs.State.{IsDictState, entry_of};
 
     ghost Value = { List (List ℕ) };
 
-    ghost view = { λ dict. dict.entries.items };
+    ghost view = { λ dict. map entry_of dict.nodes.items };
 
-    ghost invariant = { λ dict. IsDictState dict.entries.items dict.lengths.items };
+    ghost invariant = { λ dict. IsDictState (map entry_of dict.nodes.items) dict.nodes.items dict.lengths.items };
 }
 
 impl Dict {
@@ -75,10 +78,10 @@ impl Dict {
     ///
     /// Errors: `Child` if an entry has a child that does not exist; else `Cycle` if a symbol has no finite
     /// expansion; else `LongSymbol` if a symbol has more than 256 values. Each carries the least such symbol.
-    /// `Memory` if a list of the search for `Cycle` and `LongSymbol` could not grow, so never if there is a `Child`.
-    /// No clause says that `Memory` has no other cause, since none can say what an allocator returns; reading and
-    /// tests show it. The running time is linear in the number of entries, and the call depth does not grow with the
-    /// depth of the pairs.
+    /// `Memory` if a list of the search for `Cycle` and `LongSymbol`, or one of the dictionary's own, could not grow, so
+    /// never if there is a `Child`. No clause says that `Memory` has no other cause, since none can say what an
+    /// allocator returns; reading and tests show it. The running time is linear in the number of entries, and the call
+    /// depth does not grow with the depth of the pairs.
     pub fn new(alloc: Global, entries: Vec<[u8; 3]>) -> Result<Dict, DictFault>
         requires { length entries.items ≤ 65535 }
         ensures accepted { IfOk result (λ dict. (dict ≡ entries.items) × IsDictionary entries.items) }
@@ -98,7 +101,8 @@ impl Dict {
         if let Some(symbol) = lengths.iter().position(|length| *length > 256) {
             return Err(DictFault::LongSymbol(symbol as u16));
         }
-        Ok(Dict { entries, lengths })
+        let nodes = find_nodes(alloc, &entries, &lengths)?;
+        Ok(Dict { nodes, lengths })
     }
 
     /// Returns the number of symbols, 0 to 65,535.
@@ -106,7 +110,7 @@ impl Dict {
         ensures number { result ≡ length self.now }
         ensures dictionary { IsDictionary self.now }
     {
-        self.entries.len() as u16
+        self.nodes.len() as u16
     }
 
     /// Returns the entry of symbol `s`, unchanged.
@@ -114,7 +118,7 @@ impl Dict {
         requires { s < length self.now }
         ensures { slice_get self.now s ≡ Some result }
     {
-        self.entries[s as usize]
+        self.nodes[s as usize].entry()
     }
 
     /// Returns the number of values of symbol `s`, 1 to 256.
@@ -145,7 +149,7 @@ impl Dict {
     }
 
     /// Returns value `i` of symbol `s` and the number of pairs above it, at most 255. As in the probing code, the
-    /// descent compares `i` with the length of each left symbol.
+    /// descent compares `i` with the length of each left symbol, which is the `split` of the pair's node.
     pub fn descend(&self, s: u16, i: u16) -> Descent
         requires there { s < length self.now }
         requires within { i < length (expansion_of self.now s) }
@@ -157,21 +161,19 @@ impl Dict {
         let mut rest = i;
         let mut pairs = 0;
         loop {
-            let entry = self.entries[symbol as usize];
-            if is_leaf(entry) {
+            let node = self.nodes[symbol as usize];
+            if node.is_leaf() {
                 return Descent {
-                    value: left(entry),
+                    value: node.left,
                     pairs,
                 };
             }
             pairs += 1;
-            let (first, second) = (left(entry), right(entry));
-            let length = self.lengths[first as usize];
-            if rest < length {
-                symbol = first;
+            if rest < node.split {
+                symbol = node.left;
             } else {
-                rest -= length;
-                symbol = second;
+                rest -= node.split;
+                symbol = node.right;
             }
         }
     }
@@ -186,12 +188,12 @@ impl Dict {
         let mut waiting = Vec::new(alloc);
         waiting.push(s)?;
         while let Some(symbol) = waiting.pop() {
-            let entry = self.entries[symbol as usize];
-            if is_leaf(entry) {
-                values.push(left(entry))?;
+            let node = self.nodes[symbol as usize];
+            if node.is_leaf() {
+                values.push(node.left)?;
             } else {
-                waiting.push(right(entry))?;
-                waiting.push(left(entry))?;
+                waiting.push(node.right)?;
+                waiting.push(node.left)?;
             }
         }
         Ok(values)

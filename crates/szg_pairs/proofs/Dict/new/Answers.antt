@@ -1,11 +1,12 @@
-use Rattle.std.proofs.Common.{ℕ, ◌≡◌, ◌≢◌, ◌<◌, ◌≤◌, ◌∙◌, Some, None, length, get_or, refl, rules, tests, arith}
+use Rattle.std.proofs.Common.{ℕ, ◌≡◌, ◌≢◌, ◌<◌, ◌≤◌, ◌∙◌, Some, None, length, map, get_or, rules, tests, arith}
 use Rattle.std.proofs.lemmas.Iterator.{IsFirst-from_position, YieldsList-from_slice}
-use Rattle.szg_pairs.specs.Dictionary.{IsDictionary, IsDictionaryFault}
+use Rattle.szg_pairs.specs.Dictionary.{IsDictionaryFault}
+use Rattle.szg_pairs.specs.State.{entry_of, node_of, IsDictState}
 use Rattle.szg_pairs.specs.declared.DictFault.TheVariants.{Child, Cycle, LongSymbol}
 use Rattle.szg_pairs.proofs.Accepting.{accepted_has_no_fault, is_cycle, is_long_symbol}
 use Rattle.szg_pairs.proofs.Judging.{IsFirstIndex, first_endless, all_expand, first_too_long, dict_state}
 use Rattle.szg_pairs.proofs.Dict.new.Goals as goal
-use Rattle.szg_pairs.proofs.Dict.new.Goals.{After-drop-entries, After-drop-entries-in-Some-position, After-drop-entries-in-Some-position-2, In_default-position-2}
+use Rattle.szg_pairs.proofs.Dict.new.Goals.{After-drop-entries, After-drop-entries-in-Some-position, After-drop-entries-in-Some-position-2, In_ok-nodes}
 
 -- ---- what the searches find
 
@@ -19,7 +20,7 @@ all_known c s lt =
     let p = IsFirst-from_position _ _ None (λ (n : ℕ). n ≡ 0) (λ (n : ℕ). n ≢ 0) c.in_default-position.ensures.ran (YieldsList-from_slice c.in_ok-lengths.lengths.items (c.iter.ensures.rest ∙ c.deref-3.ensures.value)) (λ x q k. search (rules, tests)) (λ x q k. search (rules, tests)) in
     omega (arith, p s 0 (omega arith) lt)
 
-all_known_at_end : (c : In_default-position-2) → (s : ℕ) → s < length c.in_ok-lengths.lengths.items → 0 < get_or c.in_ok-lengths.lengths.items s 0
+all_known_at_end : (c : In_ok-nodes) → (s : ℕ) → s < length c.in_ok-lengths.lengths.items → 0 < get_or c.in_ok-lengths.lengths.items s 0
 all_known_at_end c s lt =
     let p = IsFirst-from_position _ _ None (λ (n : ℕ). n ≡ 0) (λ (n : ℕ). n ≢ 0) c.in_default-position.ensures.ran (YieldsList-from_slice c.in_ok-lengths.lengths.items (c.iter.ensures.rest ∙ c.deref-3.ensures.value)) (λ x q k. search (rules, tests)) (λ x q k. search (rules, tests)) in
     omega (arith, p s 0 (omega arith) lt)
@@ -29,7 +30,7 @@ first_long c =
     let p = IsFirst-from_position _ _ (Some c.in-Some-position-2.symbol) (λ (n : ℕ). 256 < n) (λ (n : ℕ). n ≤ 256) c.in-Some-position-2.ensures.ran (YieldsList-from_slice c.in_ok-lengths.lengths.items (c.iter-2.ensures.rest ∙ c.deref-4.ensures.value)) (λ x q k. search (rules, tests)) (λ x q k. search (rules, tests)) in
     record { there = p.0; before = λ k lt more. absurd (omega (arith, more, p.2 k 0 (omega arith) lt)); here = p.1 0 }
 
-all_short : (c : In_default-position-2) → (s : ℕ) → s < length c.in_ok-lengths.lengths.items → get_or c.in_ok-lengths.lengths.items s 0 ≤ 256
+all_short : (c : In_ok-nodes) → (s : ℕ) → s < length c.in_ok-lengths.lengths.items → get_or c.in_ok-lengths.lengths.items s 0 ≤ 256
 all_short c s lt =
     let p = IsFirst-from_position _ _ None (λ (n : ℕ). 256 < n) (λ (n : ℕ). n ≤ 256) c.in_default-position-2.ensures.ran (YieldsList-from_slice c.in_ok-lengths.lengths.items (c.iter-2.ensures.rest ∙ c.deref-4.ensures.value)) (λ x q k. search (rules, tests)) (λ x q k. search (rules, tests)) in
     p s 0 (omega arith) lt
@@ -74,22 +75,33 @@ returns-in-Some-position-2-clause-long_symbol c s fault = is_long_symbol c.args.
 
 -- ---- the dictionary
 
-pub invariant_of-result : goal.invariant_of-result
-invariant_of-result c =
-    let found = rw c.deref-2.ensures.value at c.in_ok-lengths.ensures in
-    dict_state _ _ found (all_known_at_end c) (all_short c) c.requires
+nodes_made : (c : In_ok-nodes) → c.in_ok-nodes.nodes.items ≡ map (node_of c.in_ok-lengths.lengths.items) c.args.entries.items
+nodes_made c = rw (c.deref-5.ensures.value, c.deref-6.ensures.value) at c.in_ok-nodes.ensures.nodes
 
-accepted : (c : In_default-position-2) → IsDictionary c.args.entries.items
-accepted c =
+same_entries : (c : In_ok-nodes) → map entry_of c.in_ok-nodes.nodes.items ≡ c.args.entries.items
+same_entries c = rw c.deref-5.ensures.value at c.in_ok-nodes.ensures.entries
+
+state : (c : In_ok-nodes) → IsDictState c.args.entries.items c.in_ok-nodes.nodes.items c.in_ok-lengths.lengths.items
+state c =
     let found = rw c.deref-2.ensures.value at c.in_ok-lengths.ensures in
-    let state = dict_state _ _ found (all_known_at_end c) (all_short c) c.requires in
-    state.dictionary
+    dict_state _ _ found (all_known_at_end c) (all_short c) c.requires _ (nodes_made c)
+
+pub invariant_of-result : goal.invariant_of-result
+invariant_of-result c = rw (same_entries c) (state c)
 
 pub returns-clause-accepted : goal.returns-clause-accepted
-returns-clause-accepted c = (refl, accepted c)
+returns-clause-accepted c =
+    let made = (goal.at.returns-clause-accepted c).In_ok-nodes in
+    (same_entries made, (state made).dictionary)
 
 pub returns-clause-cycle : goal.returns-clause-cycle
-returns-clause-cycle c s fault = let none = accepted_has_no_fault c.args.entries.items (accepted c) (Cycle s) fault in absurd cc
+returns-clause-cycle c s fault =
+    let made = (goal.at.returns-clause-cycle c).In_ok-nodes in
+    let none = accepted_has_no_fault c.args.entries.items (state made).dictionary (Cycle s) fault in
+    absurd cc
 
 pub returns-clause-long_symbol : goal.returns-clause-long_symbol
-returns-clause-long_symbol c s fault = let none = accepted_has_no_fault c.args.entries.items (accepted c) (LongSymbol s) fault in absurd cc
+returns-clause-long_symbol c s fault =
+    let made = (goal.at.returns-clause-long_symbol c).In_ok-nodes in
+    let none = accepted_has_no_fault c.args.entries.items (state made).dictionary (LongSymbol s) fault in
+    absurd cc
