@@ -3,7 +3,6 @@ pub mod Values
 pub mod Spelling
 pub mod WordAt
 pub mod Joined
-pub mod Pushing
 pub mod Written
 pub mod Powers
 pub mod Parts

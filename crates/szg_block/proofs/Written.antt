@@ -4,22 +4,6 @@ use Rattle.std.proofs.lemmas.List.{take_at, take_all, drop_all, length-drop}
 use Rattle.szg_block.proofs.Joined.{take-append_both}
 use borrow.Rule.Slice.PartMut.{put_mid, post_of}
 
--- the first n items and then the others
-pub both_written : (n : ℕ) (xs ys zs : List ℕ) → length ys ≡ n → take n (ys ++ drop n xs) ++ (zs ++ post_of n (length (ys ++ drop n xs) - n) (ys ++ drop n xs)) ≡ ys ++ zs
-both_written n xs ys zs long =
-    let all : List ℕ = ys ++ drop n xs in
-    let first : take n all ≡ ys = take_at ys (drop n xs) n long in
-    let rest : post_of n (length all - n) all ≡ [] = drop_all (length all - n) (drop n all) (omega (arith, length-drop n all)) in
-    ap (λ u. take n all ++ (zs ++ u)) rest ∙ ap (λ u. u ++ (zs ++ [])) first ∙ ap (λ u. ys ++ u) (append-nil zs)
-
--- the number of the first ones, and of the others
-pub first_long : (n : ℕ) (xs all ys : List ℕ) → n ≤ length xs → n ≤ length all → ys ≡ take (length (take n xs)) all → length ys ≡ n
-first_long n xs all ys within enough are = omega (arith, ap (λ u. length u) are, length-take (length (take n xs)) all, length-take n xs)
-
-pub rest_long : (n : ℕ) (xs ys : List ℕ) → length ys ≡ n → length (take (length (ys ++ drop n xs) - n) (drop n (ys ++ drop n xs))) ≡ length xs - n
-rest_long n xs ys long =
-    omega (arith, long, length-take (length (ys ++ drop n xs) - n) (drop n (ys ++ drop n xs)), length-drop n (ys ++ drop n xs), length-append ys (drop n xs), length-drop n xs)
-
 -- k more items after the first `at` ones: those of xs, as far as there is room
 pub more_fits : (at k : ℕ) (values ys : List ℕ) → at + k ≤ length values → length ys ≡ k → length (put_mid at (at + k - at) values ys) ≡ length values
 more_fits at k values ys within long =

@@ -4,7 +4,6 @@ ghost use Rattle.std.specs.Prelude.{ℕ, List, ◌≡◌, ◌<◌, ◌≤◌, �
 ghost use Rattle.szg_code.specs.Acceptance.{IsCode};
 ghost use Rattle.szg_code.specs.Bits.{bits};
 ghost use Rattle.szg_code.specs.Least.{HasBytesAbove};
-ghost use Rattle.szg_pairs.specs.Dictionary.{IsDictionary};
 ghost use Rattle.szg_pairs.specs.Expansion.{expansion_of};
 ghost use Rattle.szg_code.specs.Cursor.{TakesWords};
 ghost use Rattle.szg_code.specs.NextWords.{symbols_of};
@@ -15,7 +14,6 @@ ghost use Rattle.szg_block.specs.Spelled.{AreBelow, values_of, values_spelled, w
 use szg_code::{
     Bits, Code, EndlessBits, NextWords, next_byte, next_endless, next_word_if, next_words,
 };
-use szg_pairs::entry::{is_leaf, left, right};
 use szg_pairs::{Descent, Dict};
 
 /// Returns the number of values of one or two words.
@@ -329,24 +327,21 @@ pub(crate) fn find_in_block(code: &Code, dict: &Dict, block: &[u8], index: u64) 
 /// It makes one call for each pair and each leaf that it expands. Pairs are nested at most 255 deep, so calls are
 /// nested at most 256 deep.
 fn write_symbol(dict: &Dict, symbol: u16, values: &mut [u16])
-    requires dictionary { IsDictionary dict.now }
     requires there { symbol < length dict.now }
     requires some { 1 ≤ length values.old }
     requires within { length values.old ≤ length (expansion_of dict.now symbol) }
     ensures { values.new ≡ take (length values.old) (expansion_of dict.now symbol) }
 {
-    let entry = dict.entry(symbol);
-    let first = left(entry);
-    if is_leaf(entry) {
-        values[0] = first;
+    let Some((left, right)) = dict.pair(symbol) else {
+        values[0] = dict.value_at(symbol, 0);
         return;
-    }
-    let length = dict.len(first) as usize;
+    };
+    let length = dict.len(left) as usize;
     if values.len() <= length {
-        return write_symbol(dict, first, values);
+        return write_symbol(dict, left, values);
     }
-    write_symbol(dict, first, &mut values[..length]);
-    write_symbol(dict, right(entry), &mut values[length..]);
+    write_symbol(dict, left, &mut values[..length]);
+    write_symbol(dict, right, &mut values[length..]);
 }
 
 /// Writes the first values of a block whose own bits spell at least as many as `values` has room for.
@@ -357,7 +352,6 @@ pub fn write_values(code: &Code, dict: &Dict, block: &[u8], values: &mut [u16])
     requires within { length values.old ≤ length (values_spelled code.now dict.now (bits block.now)) }
     ensures { values.new ≡ take (length values.old) (values_spelled code.now dict.now (bits block.now)) }
 {
-    prove_eq!(code.symbols(), dict.symbols());
     let mut words = Bits::new(block);
     let mut at = 0;
     'words: while at < values.len() {

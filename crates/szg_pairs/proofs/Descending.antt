@@ -47,8 +47,8 @@ module _ (entries : List (List ℕ)) where
     pub left_there : left_of entry < length entries
     pub right_there : right_of entry < length entries
     pub joined : expansion_of entries s ≡ expansion_of entries (left_of entry) ++ expansion_of entries (right_of entry)
-    pub left_some : 0 < length (expansion_of entries (left_of entry))
-    pub right_some : 0 < length (expansion_of entries (right_of entry))
+    pub left_shorter : length (expansion_of entries (left_of entry)) < length (expansion_of entries s)
+    pub right_shorter : length (expansion_of entries (right_of entry)) < length (expansion_of entries s)
 
   pub pair_at : IsDictionary entries → (s : ℕ) (entry : List ℕ) → s < length entries → slice_get entries s ≡ Some entry → is_leaf entry ≡ false → IsPairAt s entry
   pair_at accepted s entry there at paired =
@@ -62,9 +62,9 @@ module _ (entries : List (List ℕ)) where
       record {
         left_there = Expands-there entries p.2;
         right_there = Expands-there entries p.3;
-        joined = p.4 ∙ ap (λ (v : List ℕ). v ++ p.1) (sym l) ∙ ap (λ (v : List ℕ). expansion_of entries (left_of entry) ++ v) (sym r);
-        left_some = rw l (Expands-length entries p.2);
-        right_some = rw r (Expands-length entries p.3);
+        joined = rw (l, r) p.4;
+        left_shorter = rw l (omega (arith, n, whole, Expands-length entries p.3));
+        right_shorter = rw r (omega (arith, n, whole, Expands-length entries p.2));
       }
 
   pub leaf_at : IsDictionary entries → (s : ℕ) (entry : List ℕ) → s < length entries → slice_get entries s ≡ Some entry → is_leaf entry ≡ true → expansion_of entries s ≡ left_of entry ∷ []
@@ -227,9 +227,7 @@ module _ (entries : List (List ℕ)) where
       l ≡ left_of entry → first ≡ length (expansion_of entries (left_of entry)) → k < first → IsDescent entries s i l k (pairs + 1) × (length (expansion_of entries l) < length (expansion_of entries t))
   down_left accepted s i t k pairs l first entry d at paired is_left long less =
       let p = pair_at accepted t entry d.there at paired in
-      let whole = ap length p.joined in
-      let n = length-append (expansion_of entries (left_of entry)) (expansion_of entries (right_of entry)) in
-      rw is_left (record { there = p.left_there; within = omega (arith, long, less); same = go_left t k entry p (omega (arith, long, less)) ∙ d.same; deep = omega (arith, d.deep, depth_left accepted t k entry d.there at paired (omega (arith, long, less))) }, omega (arith, whole, n, p.right_some))
+      rw is_left (record { there = p.left_there; within = omega (arith, long, less); same = go_left t k entry p (omega (arith, long, less)) ∙ d.same; deep = omega (arith, d.deep, depth_left accepted t k entry d.there at paired (omega (arith, long, less))) }, p.left_shorter)
 
   pub down_right : IsDictionary entries → (s i t k pairs r first : ℕ) (entry : List ℕ) → IsDescent entries s i t k pairs → slice_get entries t ≡ Some entry → is_leaf entry ≡ false →
       r ≡ right_of entry → first ≡ length (expansion_of entries (left_of entry)) → first ≤ k → IsDescent entries s i r (k - first) (pairs + 1) × (length (expansion_of entries r) < length (expansion_of entries t))
@@ -237,7 +235,7 @@ module _ (entries : List (List ℕ)) where
       let p = pair_at accepted t entry d.there at paired in
       let whole = ap length p.joined in
       let n = length-append (expansion_of entries (left_of entry)) (expansion_of entries (right_of entry)) in
-      rw (is_right, long) (record { there = p.right_there; within = omega (arith, long, more, whole, n, d.within); same = go_right t k entry p d.within (omega (arith, long, more)) ∙ d.same; deep = omega (arith, d.deep, depth_right accepted t k entry d.there at paired d.within (omega (arith, long, more))) }, omega (arith, whole, n, p.left_some))
+      rw (is_right, long) (record { there = p.right_there; within = omega (arith, long, more, whole, n, d.within); same = go_right t k entry p d.within (omega (arith, long, more)) ∙ d.same; deep = omega (arith, d.deep, depth_right accepted t k entry d.there at paired d.within (omega (arith, long, more))) }, p.right_shorter)
 
   -- ---- the steps of an expansion
 
@@ -265,8 +263,8 @@ module _ (entries : List (List ℕ)) where
       let l_there : l < length entries = rw is_left p.left_there in
       let r_there : r < length entries = rw is_right p.right_there in
       let joined : expansion_of entries x ≡ expansion_of entries l ++ expansion_of entries r = rw (is_left, is_right) p.joined in
-      let some_l : 0 < length (expansion_of entries l) = rw is_left p.left_some in
-      let some_r : 0 < length (expansion_of entries r) = rw is_right p.right_some in
+      let less_l : length (expansion_of entries l) < length (expansion_of entries x) = rw is_left p.left_shorter in
+      let less_r : length (expansion_of entries r) < length (expansion_of entries x) = rw is_right p.right_shorter in
       let steps = ap (steps_left entries) popped ∙ steps_left-push rest x in
       let steps_r = ap (steps_left entries) pushed_right ∙ steps_left-push rest r in
       let steps_l = ap (steps_left entries) pushed_left ∙ steps_left-push rest_right l in
@@ -277,5 +275,5 @@ module _ (entries : List (List ℕ)) where
       ap (stack_values entries) pushed_left ∙ stack_values-push rest_right l ∙ ap (λ (u : List ℕ). expansion_of entries l ++ u) (ap (stack_values entries) pushed_right ∙ stack_values-push rest r) in (
         ap (λ (u : List ℕ). values ++ u) (now ∙ sym (append_assoc (expansion_of entries l) (expansion_of entries r) (stack_values entries rest)) ∙ sym top) ∙ so_far,
         rw pushed_left (AllBelow-push (length entries) rest_right l (rw pushed_right (AllBelow-push (length entries) rest r b.0 r_there)) l_there),
-        omega (arith, steps, steps_r, steps_l, many, some_l, some_r),
+        omega (arith, steps, steps_r, steps_l, many, less_l, less_r),
       )

@@ -1,7 +1,7 @@
 //! Pair dictionaries of Syzygy tables: each symbol is a single value or a pair of symbols.
 #![tactic(auto)]
 
-ghost use Rattle.std.specs.Prelude.{◌≡◌, ◌<◌, ◌≤◌, ◌⊎◌, length, slice_get, slice_index, ℕ, Some, IfOk, IfErr, IsErrOf, MatchOption};
+ghost use Rattle.std.specs.Prelude.{◌≡◌, ◌<◌, ◌≤◌, ◌++◌, ◌⊎◌, length, slice_get, slice_index, ℕ, Some, IfSome, IfNone, IfOk, IfErr, IsErrOf, MatchOption};
 ghost use Rattle.szg_pairs.specs.Expansion.{expansion_of, depths_of};
 ghost use Rattle.szg_pairs.specs.Dictionary.{FailsFirst, IsDictionary, IsDictionaryFault};
 ghost use Rattle.szg_pairs.specs.Entry.{NamesSymbols};
@@ -119,6 +119,21 @@ impl Dict {
         ensures { slice_get self.now s ≡ Some result }
     {
         self.nodes[s as usize].entry()
+    }
+
+    /// Returns the two symbols of the pair `s`. None if the symbol is a leaf.
+    pub fn pair(&self, s: u16) -> Option<(u16, u16)>
+        requires { s < length self.now }
+        ensures there { IfSome result (λ pair. (pair.0 < length self.now) × (pair.1 < length self.now)) }
+        ensures joined { IfSome result (λ pair. expansion_of self.now s ≡ expansion_of self.now pair.0 ++ expansion_of self.now pair.1) }
+        ensures shorter { IfSome result (λ pair. (length (expansion_of self.now pair.0) < length (expansion_of self.now s)) × (length (expansion_of self.now pair.1) < length (expansion_of self.now s))) }
+        ensures leaf { IfNone result (length (expansion_of self.now s) ≡ 1) }
+    {
+        let node = self.nodes[s as usize];
+        if node.is_leaf() {
+            return None;
+        }
+        Some((node.left, node.right))
     }
 
     /// Returns the number of values of symbol `s`, 1 to 256.
