@@ -1,5 +1,5 @@
 //! A reader of words, by windows of 64 bits as in de Man's probing code.
-ghost use Rattle.std.specs.Prelude.{◌≡◌, ◌*◌, ◌^◌, ◌<◌, ◌≤◌, ◌%◌, ◌+◌, [], IfNone, IfSome, length, take, drop};
+ghost use Rattle.std.specs.Prelude.{◌≡◌, ◌*◌, ◌^◌, ◌<◌, ◌≤◌, ◌%◌, ◌+◌, [], IfNone, IfSome, length, ltb, take, drop};
 ghost use Rattle.szg_code.specs.Bits.{bits, number};
 ghost use Rattle.szg_code.specs.Least.{HasBytesAbove};
 ghost use Rattle.szg_code.specs.Spelling.{BeginsWithNoWord};
@@ -72,7 +72,8 @@ impl<'a> EndlessBits<'a> {
     /// Reads the window anew, so that it holds seven bytes or more, with zeros past the end. Returns whether there is a byte.
     #[inline(always)]
     pub fn refill(&mut self) -> bool
-        ensures { self.new ≡ self.old }
+        ensures same { self.new ≡ self.old }
+        ensures left { result ≡ ltb 0 (length self.old.cursor.left) }
     {
         let Some(window) = fresh_window(self.bytes, self.offset) else {
             return false;
@@ -182,6 +183,7 @@ fn fresh_window(bytes: &[u8], offset: u64) -> Option<Window>
     requires { length bytes.now ≤ 2 ^ 60 }
     ensures valid { IfSome result (λ window. IsWordReader bytes.now offset window.bits window.held) }
     ensures held { IfSome result (λ window. window.held ≡ 57) }
+    ensures some { IfSome result (λ _. offset < 8 * length bytes.now) }
     ensures none { IfNone result (8 * length bytes.now ≤ offset) }
 {
     Some(Window {

@@ -20,4 +20,4 @@ loop-preserved g c =
     }
 
 pub returns-then-not-refill-clause-ahead : goal.returns-then-not-refill-clause-ahead
-returns-then-not-refill-clause-ahead g c all i is = subst (λ (k : EndlessCursor). IsAhead c.args.code.now c.args.dict.now all i k c.windows.ahead) (sym c.refill.ensures) (c.windows.invariant.stays all i is)
+returns-then-not-refill-clause-ahead g c all i is = subst (λ (k : EndlessCursor). IsAhead c.args.code.now c.args.dict.now all i k c.windows.ahead) (sym c.refill.ensures.same) (c.windows.invariant.stays all i is)
