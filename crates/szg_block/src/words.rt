@@ -169,19 +169,13 @@ fn reach_by<'a, const TWO: bool, const TABLE: bool, const BYTES: bool>(
 
 /// As `reach_by`, by the code's tables of first bytes.
 #[inline(never)]
-fn reach_by_table<'a>(
-    code: &Code,
-    above: u64,
-    dict: &Dict,
-    left: Bits<'a>,
-    index: u64,
-) -> Option<Reached<'a>>
+fn reach_by_table<'a>(code: &Code, dict: &Dict, left: Bits<'a>, index: u64) -> Option<Reached<'a>>
     requires accepted { IsCode code.now }
-    requires above { HasBytesAbove code.now above }
     requires symbols { code.now.symbols ≡ length dict.now }
     ensures found { IfSome result (IsReached code.now dict.now left.entry.left index) }
     ensures none { IfNone result (length (values_spelled code.now dict.now left.entry.left) ≤ index) }
 {
+    let above = code.bytes_above();
     if code.has_two_words() {
         reach_by::<true, true, false>(code, above, dict, left, index)
     } else {
@@ -203,7 +197,7 @@ fn reach<'a>(code: &Code, dict: &Dict, left: Bits<'a>, index: u64) -> Option<Rea
     } else if code.is_read_word_by_word() {
         reach_by::<false, false, false>(code, above, dict, left, index)
     } else {
-        reach_by_table(code, above, dict, left, index)
+        reach_by_table(code, dict, left, index)
     }
 }
 
@@ -278,7 +272,7 @@ pub(crate) fn find_up_to(code: &Code, dict: &Dict, block: &[u8], index: u64) -> 
     if code.is_read_word_by_word() {
         return find_by_words::<false>(code, above, dict, left, index);
     }
-    let reached = reach_by_table(code, above, dict, left, index)?;
+    let reached = reach_by_table(code, dict, left, index)?;
     Some(value_in(dict, reached.words, reached.index as u16))
 }
 

@@ -39,8 +39,8 @@ pub(crate) fn constant_byte(kind: Kind, values: &[u16]) -> Option<u8>
 /// Builds the subtable of a list of values, with the plan's flags (0 in WDL). `other_bytes` is as in `pack`.
 pub(crate) fn build_sub<V: Watcher>(
     alloc: Global,
-    kind: Kind,
     values: &[u16],
+    kind: Kind,
     flags: u8,
     choice: Choice,
     other_bytes: Option<u64>,

@@ -93,7 +93,7 @@ fn build_subs<V: Watcher>(
     'lists: for (n, list) in lists.iter().enumerate() {
         watcher.subtable(n + 1, lists.len(), list.len());
         let flags = plan.flags.get(n).copied().unwrap_or(0);
-        let sub = build_sub(alloc, plan.kind, list, flags, choice, other_bytes, watcher)?;
+        let sub = build_sub(alloc, list, plan.kind, flags, choice, other_bytes, watcher)?;
         subs.push(sub)?;
     }
     Ok(subs)

@@ -12,10 +12,6 @@ use crate::two_words::TwoWords;
 use byteorder::{BigEndian, ByteOrder};
 use std::marker::Model;
 
-/// The number of bits that a window holds at least when it has just been read: eight bytes without the bits before the
-/// offset in the first byte.
-const FRESH: u64 = 57;
-
 /// The bits of a byte. Two words that are decoded at a step have no more.
 const BYTE: u64 = 8;
 
@@ -188,7 +184,8 @@ fn fresh_window(bytes: &[u8], offset: u64) -> Option<Window>
 {
     Some(Window {
         bits: read_u64_at(bytes, (offset / 8) as usize)? << (offset % 8),
-        held: FRESH,
+        // eight bytes, without the bits before the offset in the first one
+        held: 57,
     })
 }
 

@@ -124,7 +124,7 @@ pub(crate) fn pack<V: Watcher>(
     requires values { IsBuildable kind values.now }
     ensures { IfOk result (IsPackedAs kind choice flags values.now) }
 {
-    let sub = build_sub(alloc, kind, values, flags, choice, other_bytes, watcher)?;
+    let sub = build_sub(alloc, values, kind, flags, choice, other_bytes, watcher)?;
     Ok(PackedSub {
         flags,
         size: values.len() as u64,
