@@ -4,7 +4,7 @@
 ghost use Rattle.std.specs.Prelude.{◌≡◌, ◌<◌, ◌≤◌, ◌++◌, ◌⊎◌, length, slice_get, slice_index, ℕ, Some, IfSome, IfNone, IfOk, IfErr, IsErrOf, MatchOption};
 ghost use Rattle.szg_pairs.specs.Expansion.{expansion_of, depths_of};
 ghost use Rattle.szg_pairs.specs.Dictionary.{FailsFirst, IsDictionary, IsDictionaryFault};
-ghost use Rattle.szg_pairs.specs.Entry.{NamesSymbols};
+ghost use Rattle.szg_pairs.specs.Entry.{NamesSymbols, left_of, right_of};
 
 use entry::names_symbols_below;
 use nodes::{Node, find_nodes};
@@ -125,6 +125,7 @@ impl Dict {
     pub fn pair(&self, s: u16) -> Option<(u16, u16)>
         requires { s < length self.now }
         ensures there { IfSome result (λ pair. (pair.0 < length self.now) × (pair.1 < length self.now)) }
+        ensures symbols { IfSome result (λ pair. IfSome (slice_get self.now s) (λ entry. (pair.0 ≡ left_of entry) × (pair.1 ≡ right_of entry))) }
         ensures joined { IfSome result (λ pair. expansion_of self.now s ≡ expansion_of self.now pair.0 ++ expansion_of self.now pair.1) }
         ensures shorter { IfSome result (λ pair. (length (expansion_of self.now pair.0) < length (expansion_of self.now s)) × (length (expansion_of self.now pair.1) < length (expansion_of self.now s))) }
         ensures leaf { IfNone result (length (expansion_of self.now s) ≡ 1) }

@@ -16,6 +16,7 @@ returns c =
     let n = node_read _ c.self.invariant refl _ _ there c.index-node.ensures in
     let p = pair_at _ c.self.invariant.dictionary _ _ there n.at (sym n.leaf ∙ sym c.is_leaf.ensures ∙ c.if-is_leaf.false) in
     rw (← c.self.view_is) (record {
+      symbols = rw n.at (n.left, n.right);
       there = (rw (← n.left) at p.left_there, rw (← n.right) at p.right_there);
       joined = rw (← n.left, ← n.right) at p.joined;
       shorter = (rw (← n.left) at p.left_shorter, rw (← n.right) at p.right_shorter);
