@@ -4,10 +4,11 @@ use Rattle.std.specs.List.{slice_get}
 use Rattle.std.proofs.lemmas.Bool.{cases_lt}
 use Rattle.szg_code.specs.Canonical.{CanonicalCode}
 use Rattle.szg_code.specs.Cursor.{EndlessCursor}
-use Rattle.szg_code.specs.Spelling.{BeginsWithNoWord}
+use Rattle.szg_code.specs.Spelling.{BeginsWithNoWord, BeginsWithOneAtMost}
+use Rattle.szg_pairs.specs.Expansion.{expansion_of}
 use Rattle.szg_block.specs.Reached.{IsAhead}
 use Rattle.szg_block.specs.Spelled.{values_spelled}
-use Rattle.szg_block.proofs.Spelling.{values_spelled-none}
+use Rattle.szg_block.proofs.Spelling.{values_spelled-none, values_spelled-one_at_most}
 use Rattle.szg_block.proofs.Joined.{slice_get-append_after}
 
 module _ (code : CanonicalCode) (entries : List (List ℕ)) (all : List ℕ) (index : ℕ) (old : EndlessCursor) (ahead : ℕ) (is : IsAhead code entries all index old ahead) where
@@ -22,16 +23,27 @@ module _ (code : CanonicalCode) (entries : List (List ℕ)) (all : List ℕ) (in
             omega (arith, is.at_most, ap (λ u. length u) e, n)
       ]
 
+  -- if just a word before it begins the bits left, all are too few
+  pub few_of_one : (symbol : ℕ) → BeginsWithOneAtMost code old.cursor.left symbol → length (expansion_of entries symbol) ≤ ahead → length all ≤ index
+  few_of_one symbol one over =
+      elim (cases_lt 0 old.past) [
+        | inl past ↦ is.few past
+        | inr within ↦
+            let most = values_spelled-one_at_most code entries old.cursor.left symbol one in
+            let n = is.spelled (omega (arith, within)) in
+            omega (arith, is.at_most, most, over, n)
+      ]
+
   -- words are passed whose values all come before it
   pub passed : (new : EndlessCursor) (xs : List ℕ) (count : ℕ) → count ≡ length xs → count ≤ ahead →
       (new.past ≡ 0 → (old.past ≡ 0) × (values_spelled code entries old.cursor.left ≡ xs ++ values_spelled code entries new.cursor.left)) →
-      (0 < new.past → BeginsWithNoWord code old.cursor.left) → IsAhead code entries all index new (ahead - count)
-  passed new xs count l over taken none =
+      (0 < new.past → length all ≤ index) → IsAhead code entries all index new (ahead - count)
+  passed new xs count l over taken few =
       let ys : List ℕ = values_spelled code entries new.cursor.left in
       let over' : length xs ≤ ahead = omega (arith, l, over) in
       record {
         at_most = omega (arith, is.at_most);
-        few = λ past. few_values (none past);
+        few = few;
         same = λ inside.
             let t = taken inside in
             ap (λ k. slice_get ys (ahead - k)) l ∙ sym (slice_get-append_after xs ys ahead over') ∙ ap (λ u. slice_get u ahead) (sym t.1) ∙ is.same t.0;

@@ -1,19 +1,19 @@
--- One or two words that contain a value among those that bits spell, and what the bits after them spell.
-use Rattle.std.specs.Prelude.{ℕ, Bool, ◌≡◌, ◌+◌, ◌-◌, ◌<◌, ◌≤◌, List, length, slice_get}
+-- A word that contains a value among those that bits spell, and what the bits after it spell.
+use Rattle.std.specs.Prelude.{ℕ, ◌≡◌, ◌+◌, ◌-◌, ◌<◌, ◌≤◌, List, Bool, length, slice_get}
+use Rattle.szg_pairs.specs.Expansion.{expansion_of}
 use Rattle.szg_code.specs.Canonical.{CanonicalCode}
 use Rattle.szg_code.specs.Cursor.{EndlessCursor}
-use Rattle.szg_code.specs.NextWords.{symbols_of}
-use Rattle.szg_block.specs.Spelled.{AreBelow, values_of, values_spelled}
+use Rattle.szg_block.specs.Spelled.{values_spelled}
 use Rattle.szg_block.specs.declared.words.Reached.{Reached}
 
--- the words have `count` values; the one at `reached.index` is the value at `index` of those that the bits spell
+-- the word has `count` values; the one at `reached.index` is the value at `index` of those that the bits spell
 pub record IsReached (code : CanonicalCode) (entries : List (List ℕ)) (bits : List Bool) (index : ℕ) (reached : Reached) : Type 0 where
-  pub there : AreBelow (length entries) (symbols_of reached.words)
-  pub count : reached.count ≡ length (values_of entries (symbols_of reached.words))
-  pub few : reached.count ≤ 512
+  pub there : reached.symbol < length entries
+  pub count : reached.count ≡ length (expansion_of entries reached.symbol)
+  pub few : reached.count ≤ 256
   pub within : reached.index < reached.count
   pub at_most : reached.index ≤ index
-  pub value : slice_get (values_of entries (symbols_of reached.words)) reached.index ≡ slice_get (values_spelled code entries bits) index
+  pub value : slice_get (expansion_of entries reached.symbol) reached.index ≡ slice_get (values_spelled code entries bits) index
   pub spelled : length (values_spelled code entries bits) ≡ (index - reached.index) + reached.count + length (values_spelled code entries reached.left.left)
 
 -- The value at `index` of all is the one at `ahead` of those that the bits left spell. A cursor past the end has left too few.

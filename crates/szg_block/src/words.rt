@@ -5,71 +5,55 @@ ghost use Rattle.szg_code.specs.Acceptance.{IsCode};
 ghost use Rattle.szg_code.specs.Bits.{bits};
 ghost use Rattle.szg_code.specs.Least.{HasBytesAbove};
 ghost use Rattle.szg_pairs.specs.Expansion.{expansion_of};
-ghost use Rattle.szg_code.specs.Cursor.{TakesWords};
-ghost use Rattle.szg_code.specs.NextWords.{symbols_of};
-ghost use Rattle.szg_code.specs.Spelling.{BeginsWithNoWord};
 ghost use Rattle.szg_block.specs.Reached.{IsAhead, IsReached};
-ghost use Rattle.szg_block.specs.Spelled.{AreBelow, values_of, values_spelled, word_at, pairs_above};
+ghost use Rattle.szg_block.specs.Spelled.{values_spelled, word_at, pairs_above};
 
-use szg_code::{
-    Bits, Code, EndlessBits, NextWords, next_byte, next_endless, next_word_if, next_words,
-};
+use szg_code::{Bits, Code, EndlessBits, next_byte, next_endless, next_two, next_word_if};
 use szg_pairs::{Descent, Dict};
 
-/// Returns the number of values of one or two words.
-#[inline(always)]
-fn count_of(dict: &Dict, words: NextWords) -> u64
-    requires { AreBelow (length dict.now) (symbols_of words) }
-    ensures number { result ≡ length (values_of dict.now (symbols_of words)) }
-    ensures some { 1 ≤ result }
-    ensures few { result ≤ 512 }
-{
-    match words {
-        NextWords::One(symbol) => u64::from(dict.len(symbol)),
-        NextWords::Two(first, second) => u64::from(dict.len(first) + dict.len(second)),
-    }
-}
-
-/// Returns the value at `index` among the values of one or two words.
-#[inline(always)]
-fn value_in(dict: &Dict, words: NextWords, index: u16) -> u16
-    requires there { AreBelow (length dict.now) (symbols_of words) }
-    requires within { index < length (values_of dict.now (symbols_of words)) }
-    ensures { slice_get (values_of dict.now (symbols_of words)) index ≡ Some result }
-{
-    match words {
-        NextWords::One(symbol) => dict.value_at(symbol, index),
-        NextWords::Two(first, second) => {
-            let count = dict.len(first);
-            if index < count {
-                dict.value_at(first, index)
-            } else {
-                dict.value_at(second, index - count)
-            }
-        }
-    }
-}
-
-/// One or two words that contain a value.
+/// A word that contains a value.
 #[derive(Drop)]
 struct Reached<'a> {
-    words: NextWords,
-    /// The number of their values.
+    symbol: u16,
+    /// The number of the word's values.
     count: u64,
     /// The value's index among them.
     index: u64,
-    /// The reader, moved past these words.
+    /// The reader, moved past the word.
     left: Bits<'a>,
 }
 
 /// The number of bytes that a window holds when it has just been read.
 const WINDOW_BYTES: u64 = 7;
 
-/// Moves the reader past words of eight bits before the value at `index` of those that the bits left spell, by windows of seven,
-/// up to a longer word or the word that contains the value. Returns the value's index from there on. If not `BYTES`, no word is
-/// passed.
+/// Moves the reader past a word of eight bits, or if `TWO` past the two words of a byte, and returns the number of their values.
+/// None if the reader's window doesn't hold such words; then the reader does not move.
 #[inline(always)]
-fn skip_bytes<const BYTES: bool>(
+fn pass<const TWO: bool>(
+    code: &Code,
+    above: u64,
+    dict: &Dict,
+    words: &mut EndlessBits,
+) -> Option<u64>
+    requires accepted { IsCode code.now }
+    requires above { HasBytesAbove code.now above }
+    requires symbols { code.now.symbols ≡ length dict.now }
+    ensures { IfSome result (λ count. (all : List ℕ) (i ahead : ℕ) → IsAhead code.now dict.now all i words.old ahead → count ≤ ahead → IsAhead code.now dict.now all i words.new (ahead - count)) }
+{
+    let lengths = dict.lengths();
+    if TWO {
+        let (first, second) = next_two(code, words)?;
+        return Some(u64::from(lengths[first as usize]) + u64::from(lengths[second as usize]));
+    }
+    let symbol = next_byte(code, above, words)?;
+    Some(u64::from(lengths[symbol as usize]))
+}
+
+/// Moves the reader past words before the value at `index` of those that the bits left spell, by windows of seven bytes, each of
+/// which is a word or, if `TWO`, begins with two words, up to other words or those that contain the value. Returns the value's
+/// index from there on. If neither `TWO` nor `BYTES`, no word is passed.
+#[inline(always)]
+fn skip<const TWO: bool, const BYTES: bool>(
     code: &Code,
     above: u64,
     dict: &Dict,
@@ -82,10 +66,9 @@ fn skip_bytes<const BYTES: bool>(
     ensures at_most { result ≤ index }
     ensures ahead { (all : List ℕ) (i : ℕ) → IsAhead code.now dict.now all i words.old index → IsAhead code.now dict.now all i words.new result }
 {
-    if !BYTES {
+    if !TWO && !BYTES {
         return index;
     }
-    let lengths = dict.lengths();
     let mut ahead = index;
     'windows: for _ in 0..u64::MAX {
         if !words.refill() {
@@ -93,10 +76,9 @@ fn skip_bytes<const BYTES: bool>(
         }
         for _ in 0..WINDOW_BYTES {
             let mut next = words.copied();
-            let Some(symbol) = next_byte(code, above, &mut next) else {
+            let Some(count) = pass::<TWO>(code, above, dict, &mut next) else {
                 break 'windows;
             };
-            let count = u64::from(lengths[symbol as usize]);
             if ahead < count {
                 break 'windows;
             }
@@ -107,33 +89,9 @@ fn skip_bytes<const BYTES: bool>(
     ahead
 }
 
-/// Decodes one word, or if `TWO`, one or two; moves the reader past what it decoded, and returns the symbols. None if the
-/// bits left do not begin with a word.
-#[inline(always)]
-fn step<const TWO: bool, const TABLE: bool>(
-    code: &Code,
-    words: &mut EndlessBits,
-) -> Option<NextWords>
-    requires accepted { IsCode code.now }
-    ensures there { IfSome result (λ taken. AreBelow code.now.symbols (symbols_of taken)) }
-    ensures found { IfSome result (λ taken. words.new.past ≡ 0 → (words.old.past ≡ 0) × TakesWords code.now words.old.cursor words.new.cursor (symbols_of taken)) }
-    ensures past { IfSome result (λ _. 0 < words.new.past → BeginsWithNoWord code.now words.old.cursor.left) }
-    ensures none { IfNone result (BeginsWithNoWord code.now words.old.cursor.left) }
-{
-    if TWO {
-        let mut bits = words.copied().within()?;
-        let taken = next_words(code, &mut bits)?;
-        *words = bits.endless();
-        return Some(taken);
-    }
-    match next_endless::<TABLE>(code, words) {
-        Some(symbol) => Some(NextWords::One(symbol)),
-        None => None,
-    }
-}
-
-/// Decodes words up to those that contain the value at `index`. None if the bits left spell too few values. Whether the last
-/// word is within the bytes is asked once, after it. If `BYTES`, words of eight bits are passed by the code's `bytes_above`.
+/// Decodes words up to the one that contains the value at `index`. None if the bits left spell too few values. Whether the last
+/// word is within the bytes is asked once, after it. If `BYTES`, words of eight bits are passed by the code's `bytes_above`; if
+/// `TWO`, two words of a byte at a step.
 #[inline(always)]
 fn reach_by<'a, const TWO: bool, const TABLE: bool, const BYTES: bool>(
     code: &Code,
@@ -151,13 +109,13 @@ fn reach_by<'a, const TWO: bool, const TABLE: bool, const BYTES: bool>(
     let mut left = left.endless();
     let mut ahead = index;
     'words: loop {
-        ahead = skip_bytes::<BYTES>(code, above, dict, &mut left, ahead);
-        let words = step::<TWO, TABLE>(code, &mut left)?;
-        let count = count_of(dict, words);
+        ahead = skip::<TWO, BYTES>(code, above, dict, &mut left, ahead);
+        let symbol = next_endless::<TABLE>(code, &mut left)?;
+        let count = u64::from(dict.len(symbol));
         if ahead < count {
             let left = left.within()?;
             return Some(Reached {
-                words,
+                symbol,
                 count,
                 index: ahead,
                 left,
@@ -234,7 +192,7 @@ pub(crate) fn find_verified(
     if !spells(code, dict, reached.left, missing) {
         return None;
     }
-    Some(value_in(dict, reached.words, reached.index as u16))
+    Some(dict.value_at(reached.symbol, reached.index as u16))
 }
 
 /// Returns the value at `index` among those that the bits left spell, decoded word by word. None if they spell too few.
@@ -253,7 +211,7 @@ fn find_by_words<const BYTES: bool>(
     ensures none { IfNone result (length (values_spelled code.now dict.now left.entry.left) ≤ index) }
 {
     let reached = reach_by::<false, false, BYTES>(code, above, dict, left, index)?;
-    Some(value_in(dict, reached.words, reached.index as u16))
+    Some(dict.value_at(reached.symbol, reached.index as u16))
 }
 
 /// Returns the value at `index` in a block, of which no more words are decoded than up to the value. None if the block's
@@ -273,7 +231,7 @@ pub(crate) fn find_up_to(code: &Code, dict: &Dict, block: &[u8], index: u64) -> 
         return find_by_words::<false>(code, above, dict, left, index);
     }
     let reached = reach_by_table(code, dict, left, index)?;
-    Some(value_in(dict, reached.words, reached.index as u16))
+    Some(dict.value_at(reached.symbol, reached.index as u16))
 }
 
 /// Returns the value at `index` in a block whose own bits spell more than `index` values.

@@ -1,18 +1,22 @@
 -- The first two words of a byte, and of the bits that begin with it.
 use Rattle.std.proofs.Common.{ℕ, Bool, ◌≡◌, ◌≢◌, ◌+◌, ◌-◌, ◌/◌, ◌^◌, ◌<◌, ◌≤◌, inl, inr, List, [], ◌∷◌, ◌++◌, length, take, drop, replicate, set, get_or, refl, ap, sym, ◌∙◌, subst, arith, length-append, append-nil}
 use Rattle.std.proofs.lemmas.Bool.{cases_lt}
+use Rattle.std.proofs.Math.Seq.{take-length}
 use Rattle.std.proofs.lemmas.Nat.{shr-shr}
-use Rattle.std.proofs.lemmas.List.{append_assoc, take-append-drop, take_at, get_or-replicate, get_or_past, get_or-set_other, length-take-le}
+use Rattle.std.proofs.lemmas.List.{append_assoc, take-append-drop, take_at, take-take, get_or-replicate, get_or_past, get_or-set_other, length-take-le, length-drop}
 use Rattle.std.proofs.lemmas.Grind.{get_or-set_at}
 use Rattle.szg_code.specs.Bits.{bits, bits_of_number, number}
+use Rattle.szg_code.specs.Acceptance.{IsCode}
 use Rattle.szg_code.specs.Canonical.{CanonicalCode}
 use Rattle.szg_code.specs.Cursor.{Cursor, TakesWord}
+use Rattle.szg_code.specs.Spelling.{BeginsWithOneAtMost, BeginsWithWord}
 use Rattle.szg_code.specs.Window.{IsWindow}
 use Rattle.szg_code.specs.TwoWords.{BeginsWithTwoWords, ContainsTwoWords, HasTwoWords, no_words}
 use Rattle.szg_code.specs.declared.two_words.TwoWords.{TwoWords}
 use Rattle.szg_code.proofs.Numbers.{length-bits_of_number, number-bits_of_number, number-injective, mod-small}
 use Rattle.szg_code.proofs.ByteBits.{bits-cons, bits-nil}
 use Rattle.szg_code.proofs.Reading.{number-take}
+use Rattle.szg_code.proofs.Spelled.{BeginsWithWord-unique}
 use Rattle.szg_code.proofs.Windows.{number-of_window}
 
 -- ---- the words of a byte
@@ -96,4 +100,32 @@ module _ (code : CanonicalCode) (bytes : List ℕ) (offset window spare : ℕ) (
         record { taken = old.taken ++ w; left = v ++ new.left },
         record { word = w; is_one = h.is_first; taken = refl; left = whole },
         record { word = v; is_one = h.is_second; taken = taken ∙ ap (λ (u : List Bool). old.taken ++ u) both ∙ sym (append_assoc old.taken w v); left = refl },
+      )
+
+  -- the bits end before the second word does
+  pub one_at_most : IsCode code → (words : TwoWords) (left : List Bool) → BeginsWithTwoWords code (window / 2 ^ 56) words → drop offset (bits bytes) ≡ left → length left < words.bits → BeginsWithOneAtMost code left words.first
+  one_at_most accepted words left h is past s rest begins =
+      let w : List Bool = h.first_word in
+      let v : List Bool = h.second_word in
+      let byte : List Bool = bits_of_number 8 (window / 2 ^ 56) in
+      let n : ℕ = length left in
+      let d : List Bool = drop n (w ++ v) in
+      let eight : length byte ≡ 8 = length-bits_of_number 8 (window / 2 ^ 56) in
+      let long : length (w ++ v) ≡ words.bits = ap (λ (u : List Bool). length u) (sym h.joined) ∙ length-take-le words.bits byte (omega (arith, eight, h.inside)) in
+      let some : length d ≡ words.bits - n = length-drop n (w ++ v) ∙ ap (λ (k : ℕ). k - n) long in
+      let inside : n ≤ length (drop offset (bits bytes)) = let e = ap (λ (u : List Bool). length u) is in omega (arith, e) in
+      let same : take n left ≡ take n byte = subst (λ (u : List Bool). take n u ≡ take n byte) is (same_bits n (omega (arith, past, h.inside)) inside) in
+      let begin : left ≡ take n (w ++ v) = sym (take-length left) ∙ same ∙ sym (take-take n words.bits byte (omega (arith, past))) ∙ ap (λ (u : List Bool). take n u) h.joined in
+      let whole : w ++ v ≡ left ++ d = sym (take-append-drop n (w ++ v)) ∙ ap (λ (u : List Bool). u ++ d) (sym begin) in
+      let a : BeginsWithWord code (w ++ v) words.first v = record { word = w; is_one = h.is_first; joined = refl } in
+      let b : BeginsWithWord code (w ++ v) s (rest ++ d) = record { word = begins.word; is_one = begins.is_one; joined = whole ∙ ap (λ (u : List Bool). u ++ d) begins.joined ∙ append_assoc begins.word rest d } in
+      let first : (s ≡ words.first) × (rest ++ d ≡ v) = BeginsWithWord-unique code accepted (w ++ v) s words.first (rest ++ d) v b a in (
+        first.0,
+        λ t r next.
+            let e : BeginsWithWord code v words.second [] = record { word = v; is_one = h.is_second; joined = sym (append-nil v) } in
+            let f : BeginsWithWord code v t (r ++ d) = record { word = next.word; is_one = next.is_one; joined = sym first.1 ∙ ap (λ (u : List Bool). u ++ d) next.joined ∙ append_assoc next.word r d } in
+            let second : (t ≡ words.second) × (r ++ d ≡ []) = BeginsWithWord-unique code accepted v t words.second (r ++ d) [] f e in
+            let none : length (r ++ d) ≡ 0 = ap (λ (u : List Bool). length u) second.1 in
+            let sum : length (r ++ d) ≡ length r + length d = length-append r d in
+            omega (arith, none, sum, some, past),
       )

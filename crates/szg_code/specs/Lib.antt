@@ -10,4 +10,3 @@ pub mod CodeHeader
 pub mod Buffer
 pub mod Window
 pub mod TwoWords
-pub mod NextWords

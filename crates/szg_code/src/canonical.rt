@@ -148,8 +148,8 @@ impl Code {
         Code { two_words, ..self }
     }
 
-    /// Returns whether the first two words of each byte are stored, so that `next_words` is worth its table look-up. They
-    /// are only if some words may have 4 bits or fewer.
+    /// Returns whether the first two words of each byte are stored, by which `next_two` decodes. They are only if some words may
+    /// have 4 bits or fewer.
     #[inline(always)]
     pub fn has_two_words(&self) -> bool
         ensures short { IsTrue result → self.now.min_length ≤ 4 }
@@ -160,7 +160,8 @@ impl Code {
     /// Returns the first two words of the window's first byte, if they are stored and the byte contains them whole.
     #[inline(always)]
     pub(crate) fn two_words_in(&self, window: u64) -> TwoWords
-        ensures { ContainsTwoWords self.now (window / 2 ^ 56) result }
+        ensures accepted { IsCode self.now }
+        ensures words { ContainsTwoWords self.now (window / 2 ^ 56) result }
     {
         match &self.two_words {
             Some(two_words) => two_words[(window >> 56) as usize],

@@ -1,14 +1,12 @@
 //! A reader of words, by windows of 64 bits as in de Man's probing code.
-ghost use Rattle.std.specs.Prelude.{◌≡◌, ◌*◌, ◌^◌, ◌<◌, ◌≤◌, ◌%◌, ◌+◌, [], IfNone, IfSome, length, ltb, take, drop};
+ghost use Rattle.std.specs.Prelude.{◌≡◌, ◌*◌, ◌^◌, ◌<◌, ◌≤◌, ◌%◌, ◌+◌, [], ◌∷◌, IfNone, IfSome, length, ltb, take, drop};
 ghost use Rattle.szg_code.specs.Bits.{bits, number};
 ghost use Rattle.szg_code.specs.Least.{HasBytesAbove};
-ghost use Rattle.szg_code.specs.Spelling.{BeginsWithNoWord};
-ghost use Rattle.szg_code.specs.Cursor.{Cursor, TakesWord, TakesWords};
-ghost use Rattle.szg_code.specs.NextWords.{symbols_of};
+ghost use Rattle.szg_code.specs.Spelling.{BeginsWithNoWord, BeginsWithOneAtMost};
+ghost use Rattle.szg_code.specs.Cursor.{TakesWord, TakesWords};
 ghost use Rattle.szg_code.specs.Window.{IsWordReader, padded};
 
 use crate::canonical::Code;
-use crate::two_words::TwoWords;
 use byteorder::{BigEndian, ByteOrder};
 use std::marker::Model;
 
@@ -279,49 +277,28 @@ pub fn next(code: &Code, bits: &mut Bits) -> Option<u16>
     next_word_if::<true>(code, bits)
 }
 
-/// The symbols of one or two words, in their order.
-#[derive(Debug, Clone, Copy, PartialEq, Eq)]
-pub enum NextWords {
-    /// The symbol of one word.
-    One(u16),
-    /// The symbols of two words.
-    Two(u16, u16),
-}
-
-/// Decodes the next two words if the next byte contains both, and moves the reader past them. Otherwise returns None,
-/// and the reader does not move.
+/// Decodes the two words of the byte at the reader's offset, if its window holds the byte and the code stores its words; moves the
+/// reader past them, and returns their symbols. Otherwise None, and the reader does not move. As with `next_endless`, it may move
+/// past the end.
 #[inline(always)]
-fn next_two(code: &Code, words: &mut EndlessBits) -> Option<TwoWords>
-    ensures found { IfSome result (λ two. (middle : Cursor) × TakesWord code.now words.old.cursor middle two.first × TakesWord code.now middle words.new.cursor two.second) }
-    ensures within { IfSome result (λ _. words.new.past ≡ 0) }
+pub fn next_two(code: &Code, words: &mut EndlessBits) -> Option<(u16, u16)>
+    ensures there { IfSome result (λ two. (two.0 < code.now.symbols) × (two.1 < code.now.symbols)) }
+    ensures found { IfSome result (λ two. words.new.past ≡ 0 → (words.old.past ≡ 0) × TakesWords code.now words.old.cursor words.new.cursor (two.0 ∷ two.1 ∷ [])) }
+    ensures past { IfSome result (λ two. 0 < words.new.past → BeginsWithOneAtMost code.now words.old.cursor.left two.0) }
     ensures none { IfNone result (words.new ≡ words.old) }
 {
-    let window = window_of(words.bytes, words.offset, words.window, BYTE)?;
-    let two = code.two_words_in(window.bits);
-    let both = u64::from(two.bits);
-    let end = words.offset + both;
-    if both == 0 || end > 8 * words.bytes.len() as u64 {
+    let window = words.window;
+    if window.held < BYTE {
         return None;
     }
-    words.offset = end;
-    words.window = Window {
-        bits: window.bits << both,
-        held: window.held,
-    };
-    Some(two)
-}
-
-/// Decodes one or two words at the reader's offset, moves the reader past them, and returns their symbols. Two words are
-/// decoded at a step if both are in the next byte. None if the remaining bits do not begin with a word; then the reader does
-/// not move.
-#[inline(always)]
-pub fn next_words(code: &Code, words: &mut Bits) -> Option<NextWords>
-    ensures found { IfSome result (λ taken. TakesWords code.now words.old words.new (symbols_of taken)) }
-    ensures none { IfNone result (BeginsWithNoWord code.now words.old.left × (words.new ≡ words.old)) }
-{
-    if let Some(two) = next_two(code, &mut words.reader) {
-        return Some(NextWords::Two(two.first, two.second));
+    let two = code.two_words_in(window.bits);
+    if two.bits == 0 {
+        return None;
     }
-    let symbol = next(code, words)?;
-    Some(NextWords::One(symbol))
+    words.offset += u64::from(two.bits);
+    words.window = Window {
+        bits: window.bits << two.bits,
+        held: window.held - BYTE,
+    };
+    Some((two.first, two.second))
 }

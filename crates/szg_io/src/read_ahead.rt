@@ -36,11 +36,8 @@ impl Held {
     fn new(alloc: Global) -> Held
         ensures { result ≡ [] }
     {
-        let mut buffer = Vec::new(alloc);
-        // without memory nothing is read ahead
-        let _ = buffer.resize(BUFFER, 0);
         Held {
-            buffer,
+            buffer: Vec::new(alloc),
             from: 0,
             to: 0,
             ahead: 0,
@@ -51,6 +48,10 @@ impl Held {
     fn expect(&mut self, bytes: u64)
         ensures same { self.new ≡ self.old }
     {
+        if self.buffer.is_empty() {
+            // without memory nothing is read ahead
+            let _ = self.buffer.resize(BUFFER, 0);
+        }
         self.ahead = bytes.saturating_sub((self.to - self.from) as u64);
     }
 

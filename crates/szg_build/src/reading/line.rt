@@ -33,6 +33,7 @@ fn line_len(held: &[u8]) -> Option<usize>
 ///
 /// Errors: `Field` if the line has more than 80 bytes before its 0A, `Ended` if the bytes end before it, `Device` if
 /// the reader failed.
+#[inline(always)]
 pub(crate) fn next_line<R: Input>(
     least: usize,
     following: u64,

@@ -2,7 +2,7 @@ use Rattle.std.proofs.Common.{ℕ, List, ◌≤◌}
 use Rattle.szg_code.specs.Canonical.{CanonicalCode}
 use Rattle.szg_code.specs.Cursor.{EndlessCursor}
 use Rattle.szg_block.specs.Reached.{IsAhead}
-use Rattle.szg_block.proofs.words.skip_bytes.Given as goal
+use Rattle.szg_block.proofs.words.skip.Given as goal
 
 -- the value that was at an index of what a first cursor left is at another of what the second one left
 pub record StaysAhead (code : CanonicalCode) (entries : List (List ℕ)) (first : EndlessCursor) (index : ℕ) (left : EndlessCursor) (ahead : ℕ) : Type 0 where
