@@ -1,11 +1,12 @@
 -- A key holds the number of kings of each colour.
 use Rattle.std.proofs.Common.{◌≡◌, ℕ, ◌+◌, ◌*◌, ◌/◌, ◌%◌, ◌^◌, ◌<◌, ◌≤◌, List, [], ◌∷◌, length, get_or, take, ◌++◌, refl, sym, ap, ◌∙◌, Bool, true, false, cond, arith}
-use Rattle.std.specs.Prelude.{◌==◌, ◌&&◌, count_by}
+use Rattle.std.specs.Prelude.{◌==◌, ◌&&◌, count_by, slice_index}
 use Rattle.std.proofs.lemmas.Bool.{eqb-true, eq-eqb, and_parts, and_from}
 use Rattle.std.proofs.lemmas.List.Sums.{sum_by-cons, sum_by-append, count_by-le-length}
 use Rattle.std.proofs.lemmas.List.{take_more}
 use Rattle.szg_values.specs.Men.{is_man, is_color}
 use Rattle.szg_values.specs.Placement.{PlacedMan, number_of, colored_code, men_key}
+use Rattle.szg_values.specs.declared.placements.TheConstants.{KEYS}
 use Rattle.szg_values.specs.declared.Man.{Man}
 use Rattle.szg_values.specs.declared.Man.TheVariants.{Pawn, Knight, Bishop, Rook, Queen, King}
 use Rattle.szg_values.specs.declared.Color.{Color}
@@ -131,7 +132,7 @@ key_more men i s h e key one k o =
     let last = sum_by-cons add s [] in omega (arith, k, o, more, joined, last)
 
 -- what each man adds
-pub key_at : (man : Man) (color : Color) → (1 * 2 ^ (3 * colored_code man color)) % 2 ^ 64 ≡ 8 ^ colored_code man color
+pub key_at : (man : Man) (color : Color) → slice_index KEYS (colored_code man color) ≡ 8 ^ colored_code man color
 key_at Pawn White = refl
 key_at Knight White = refl
 key_at Bishop White = refl

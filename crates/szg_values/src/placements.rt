@@ -157,13 +157,33 @@ pub fn with_man(taken: u64, man: Man, square: Square) -> Option<u64>
     Some(taken | 1 << number)
 }
 
-/// Returns what a man adds to a placement's key: 8 to the power of the code.
+/// What a man adds to a key, by the code: 8 to its power. A table is quicker than a shift.
+const KEYS: [u64; 16] = [
+    1,
+    8,
+    64,
+    512,
+    4096,
+    32768,
+    262144,
+    2097152,
+    16777216,
+    134217728,
+    1073741824,
+    8589934592,
+    68719476736,
+    549755813888,
+    4398046511104,
+    35184372088832,
+];
+
+/// Returns what a man adds to a placement's key.
 #[inline(always)]
 pub fn man_key(man: Man, color: Color) -> u64
     ensures key { result ≡ 8 ^ colored_code man color }
     ensures small { result < 2 ^ 60 }
 {
-    1 << (3 * colored_code(man, color))
+    KEYS[usize::from(colored_code(man, color))]
 }
 
 /// Returns a man's code: that of his kind, plus 8 for Black. The colours' numbers are 0 and 1, so nothing branches.
