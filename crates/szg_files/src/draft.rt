@@ -108,7 +108,17 @@ where
     Ok(true)
 }
 
-/// Creates a file at a path where none is, and locks it. None if there is one, or another process has locked this one first.
+/// Returns whether another file is at an opened file's path now, or none.
+fn is_replaced<R: Files>(files: &R, file: &R::File, path: &str) -> bool {
+    match (files.symlink_metadata(path), file.metadata()) {
+        (Ok(found), Ok(own)) => node_of(&found) != node_of(&own),
+        (Err(error), _) => error.kind() == ErrorKind::NotFound,
+        _ => false,
+    }
+}
+
+/// Creates a file at a path where none is, and locks it. None if there is one, or if another process took this one for one that was
+/// left: it has locked it first, or removed it before it was locked.
 fn create_locked<R: Files>(files: &R, path: &str) -> Result<Option<R::File>, FileFault>
 where
     R::File: Lock,
@@ -120,6 +130,7 @@ where
     match created {
         Ok(file) => match file.try_lock() {
             Err(error) if error.kind() == ErrorKind::WouldBlock => Ok(None),
+            Ok(()) if is_replaced(files, &file, path) => Ok(None),
             // where there are no locks, nobody takes it for one that was left
             _ => Ok(Some(file)),
         },
