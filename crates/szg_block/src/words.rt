@@ -109,24 +109,28 @@ fn reach_by<'a, const TWO: bool, const TABLE: bool, const BYTES: bool>(
     let mut left = left.endless();
     let mut ahead = index;
     'words: loop {
-        ahead = skip::<TWO, BYTES>(code, above, dict, &mut left, ahead);
-        let symbol = next_endless::<TABLE>(code, &mut left)?;
-        let count = u64::from(dict.len(symbol));
-        if ahead < count {
-            let left = left.within()?;
-            return Some(Reached {
-                symbol,
-                count,
-                index: ahead,
-                left,
-            });
+        let stop = skip::<TWO, BYTES>(code, above, dict, &mut left, ahead);
+        ahead = stop;
+        // the value is often in the second of two words that were not passed
+        'next_words: for n in 0..2_u64 {
+            let symbol = next_endless::<TABLE>(code, &mut left)?;
+            let count = u64::from(dict.len(symbol));
+            if ahead < count {
+                let left = left.within()?;
+                return Some(Reached {
+                    symbol,
+                    count,
+                    index: ahead,
+                    left,
+                });
+            }
+            ahead -= count;
         }
-        ahead -= count;
     }
 }
 
 /// As `reach_by`, by the code's tables of first bytes.
-#[inline(never)]
+#[inline(always)]
 fn reach_by_table<'a>(code: &Code, dict: &Dict, left: Bits<'a>, index: u64) -> Option<Reached<'a>>
     requires accepted { IsCode code.now }
     requires symbols { code.now.symbols ≡ length dict.now }
@@ -214,6 +218,18 @@ fn find_by_words<const BYTES: bool>(
     Some(dict.value_at(reached.symbol, reached.index as u16))
 }
 
+/// As `find_by_words`, by the code's tables of first bytes.
+#[inline(never)]
+fn find_by_table(code: &Code, dict: &Dict, left: Bits, index: u64) -> Option<u16>
+    requires accepted { IsCode code.now }
+    requires symbols { code.now.symbols ≡ length dict.now }
+    ensures value { IfSome result (λ value. slice_get (values_spelled code.now dict.now left.entry.left) index ≡ Some value) }
+    ensures none { IfNone result (length (values_spelled code.now dict.now left.entry.left) ≤ index) }
+{
+    let reached = reach_by_table(code, dict, left, index)?;
+    Some(dict.value_at(reached.symbol, reached.index as u16))
+}
+
 /// Returns the value at `index` in a block, of which no more words are decoded than up to the value. None if the block's
 /// bits spell no more than `index` values. It relies on nothing that they spell.
 pub(crate) fn find_up_to(code: &Code, dict: &Dict, block: &[u8], index: u64) -> Option<u16>
@@ -230,8 +246,7 @@ pub(crate) fn find_up_to(code: &Code, dict: &Dict, block: &[u8], index: u64) -> 
     if code.is_read_word_by_word() {
         return find_by_words::<false>(code, above, dict, left, index);
     }
-    let reached = reach_by_table(code, dict, left, index)?;
-    Some(dict.value_at(reached.symbol, reached.index as u16))
+    find_by_table(code, dict, left, index)
 }
 
 /// Returns the value at `index` in a block whose own bits spell more than `index` values.
