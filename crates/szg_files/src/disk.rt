@@ -11,7 +11,7 @@ use std::rt::Files;
 use szg_io::Std;
 
 /// The number of bytes that are read at once.
-const BUFFER: usize = 1 << 17;
+const BUFFER: usize = 1 << 16;
 
 /// As many files stay open between the ranges that are read of them.
 const MOST_KEPT: usize = 64;

@@ -19,7 +19,7 @@ fn main(rt: HostRuntime) -> ExitCode {
                 &rt,
                 &words,
                 rt.stdout().is_terminal(),
-                rt.reader(),
+                &mut rt.reader(),
                 io::writer(&rt),
                 &mut ProgressLine::new(&rt, &rt, is_terminal),
                 &ReadLine::new(&rt, &rt, is_terminal),
