@@ -130,7 +130,7 @@ fn reach_by<'a, const TWO: bool, const TABLE: bool, const BYTES: bool>(
 }
 
 /// As `reach_by`, by the code's tables of first bytes.
-#[inline(always)]
+#[inline(never)]
 fn reach_by_table<'a>(code: &Code, dict: &Dict, left: Bits<'a>, index: u64) -> Option<Reached<'a>>
     requires accepted { IsCode code.now }
     requires symbols { code.now.symbols ≡ length dict.now }
@@ -163,6 +163,23 @@ fn reach<'a>(code: &Code, dict: &Dict, left: Bits<'a>, index: u64) -> Option<Rea
     }
 }
 
+/// Returns whether the bits left spell more than `index` values, by the code's tables of first bytes.
+#[inline(never)]
+fn spells_by_table<const TWO: bool>(
+    code: &Code,
+    above: u64,
+    dict: &Dict,
+    left: Bits,
+    index: u64,
+) -> bool
+    requires accepted { IsCode code.now }
+    requires above { HasBytesAbove code.now above }
+    requires symbols { code.now.symbols ≡ length dict.now }
+    ensures { IsTrue result ↔ (index < length (values_spelled code.now dict.now left.entry.left)) }
+{
+    reach_by::<TWO, true, false>(code, above, dict, left, index).is_some()
+}
+
 /// Returns whether the bits left spell `needed` values or more.
 #[inline(always)]
 pub(crate) fn spells(code: &Code, dict: &Dict, left: Bits, needed: u64) -> bool
@@ -170,7 +187,19 @@ pub(crate) fn spells(code: &Code, dict: &Dict, left: Bits, needed: u64) -> bool
     requires symbols { code.now.symbols ≡ length dict.now }
     ensures { IsTrue result ↔ (needed ≤ length (values_spelled code.now dict.now left.entry.left)) }
 {
-    needed == 0 || reach(code, dict, left, needed - 1).is_some()
+    if needed == 0 {
+        return true;
+    }
+    let (index, above) = (needed - 1, code.bytes_above());
+    if above < u64::MAX {
+        reach_by::<false, false, true>(code, above, dict, left, index).is_some()
+    } else if code.is_read_word_by_word() {
+        reach_by::<false, false, false>(code, above, dict, left, index).is_some()
+    } else if code.has_two_words() {
+        spells_by_table::<true>(code, above, dict, left, index)
+    } else {
+        spells_by_table::<false>(code, above, dict, left, index)
+    }
 }
 
 /// Returns the value at `index` in a block, in one pass over the words of the block's first `needed` values. None if
@@ -199,9 +228,9 @@ pub(crate) fn find_verified(
     Some(dict.value_at(reached.symbol, reached.index as u16))
 }
 
-/// Returns the value at `index` among those that the bits left spell, decoded word by word. None if they spell too few.
+/// Returns the value at `index` among those that the bits left spell, by `reach_by`. None if they spell too few.
 #[inline(never)]
-fn find_by_words<const BYTES: bool>(
+fn find_by<const TWO: bool, const TABLE: bool, const BYTES: bool>(
     code: &Code,
     above: u64,
     dict: &Dict,
@@ -214,19 +243,7 @@ fn find_by_words<const BYTES: bool>(
     ensures value { IfSome result (λ value. slice_get (values_spelled code.now dict.now left.entry.left) index ≡ Some value) }
     ensures none { IfNone result (length (values_spelled code.now dict.now left.entry.left) ≤ index) }
 {
-    let reached = reach_by::<false, false, BYTES>(code, above, dict, left, index)?;
-    Some(dict.value_at(reached.symbol, reached.index as u16))
-}
-
-/// As `find_by_words`, by the code's tables of first bytes.
-#[inline(never)]
-fn find_by_table(code: &Code, dict: &Dict, left: Bits, index: u64) -> Option<u16>
-    requires accepted { IsCode code.now }
-    requires symbols { code.now.symbols ≡ length dict.now }
-    ensures value { IfSome result (λ value. slice_get (values_spelled code.now dict.now left.entry.left) index ≡ Some value) }
-    ensures none { IfNone result (length (values_spelled code.now dict.now left.entry.left) ≤ index) }
-{
-    let reached = reach_by_table(code, dict, left, index)?;
+    let reached = reach_by::<TWO, TABLE, BYTES>(code, above, dict, left, index)?;
     Some(dict.value_at(reached.symbol, reached.index as u16))
 }
 
@@ -241,12 +258,14 @@ pub(crate) fn find_up_to(code: &Code, dict: &Dict, block: &[u8], index: u64) -> 
 {
     let (left, above) = (Bits::new(block), code.bytes_above());
     if above < u64::MAX {
-        return find_by_words::<true>(code, above, dict, left, index);
+        find_by::<false, false, true>(code, above, dict, left, index)
+    } else if code.is_read_word_by_word() {
+        find_by::<false, false, false>(code, above, dict, left, index)
+    } else if code.has_two_words() {
+        find_by::<true, true, false>(code, above, dict, left, index)
+    } else {
+        find_by::<false, true, false>(code, above, dict, left, index)
     }
-    if code.is_read_word_by_word() {
-        return find_by_words::<false>(code, above, dict, left, index);
-    }
-    find_by_table(code, dict, left, index)
 }
 
 /// Returns the value at `index` in a block whose own bits spell more than `index` values.
