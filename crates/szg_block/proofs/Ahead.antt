@@ -1,15 +1,16 @@
 -- Where the value at an index is, after words are passed.
-use Rattle.std.proofs.Common.{ℕ, ◌≡◌, ◌-◌, ◌<◌, ◌≤◌, inl, inr, List, ◌++◌, length, ap, sym, ◌∙◌, arith, length-append}
+use Rattle.std.proofs.Common.{ℕ, ◌≡◌, ◌+◌, ◌-◌, ◌<◌, ◌≤◌, inl, inr, List, ◌++◌, length, ap, sym, ◌∙◌, arith, length-append}
 use Rattle.std.specs.List.{slice_get}
 use Rattle.std.proofs.lemmas.Bool.{cases_lt}
 use Rattle.szg_code.specs.Canonical.{CanonicalCode}
 use Rattle.szg_code.specs.Cursor.{EndlessCursor}
 use Rattle.szg_code.specs.Spelling.{BeginsWithNoWord, BeginsWithOneAtMost}
 use Rattle.szg_pairs.specs.Expansion.{expansion_of}
-use Rattle.szg_block.specs.Reached.{IsAhead}
+use Rattle.szg_block.specs.Reached.{IsAhead, IsReached}
+use Rattle.szg_block.specs.declared.words.Reached.{Reached}
 use Rattle.szg_block.specs.Spelled.{values_spelled}
 use Rattle.szg_block.proofs.Spelling.{values_spelled-none, values_spelled-one_at_most}
-use Rattle.szg_block.proofs.Joined.{slice_get-append_after}
+use Rattle.szg_block.proofs.Joined.{slice_get-append_before, slice_get-append_after}
 
 module _ (code : CanonicalCode) (entries : List (List ℕ)) (all : List ℕ) (index : ℕ) (old : EndlessCursor) (ahead : ℕ) (is : IsAhead code entries all index old ahead) where
   -- if no word begins the bits left, all are too few
@@ -52,4 +53,24 @@ module _ (code : CanonicalCode) (entries : List (List ℕ)) (all : List ℕ) (in
             let n = ap (λ u. length u) t.1 ∙ length-append xs ys in
             let before = is.spelled t.0 in
             omega (arith, n, l, over, is.at_most, before);
+      }
+
+  -- The next values are those of `before`, then those of a word that contains it. A reader has moved past as many as come before it and as
+  -- `decoded` says.
+  pub is_reached : (reached : Reached) (before rest : List ℕ) → old.past ≡ 0 → reached.symbol < length entries → length (expansion_of entries reached.symbol) ≤ 256 →
+      values_spelled code entries old.cursor.left ≡ before ++ (expansion_of entries reached.symbol ++ rest) →
+      length before ≤ ahead → reached.index ≡ ahead - length before → reached.index < length (expansion_of entries reached.symbol) →
+      0 < reached.decoded → length (values_spelled code entries old.cursor.left) ≡ (ahead + reached.decoded) + length (values_spelled code entries reached.left.left) →
+      IsReached code entries all index reached
+  is_reached reached before rest inside there few e after is_index within some count =
+      let xs : List ℕ = expansion_of entries reached.symbol in
+      let n = is.spelled inside in
+      record {
+        there = there;
+        within = within;
+        few = omega (arith, within, few);
+        value = sym (slice_get-append_before xs rest reached.index within) ∙ ap (λ k. slice_get (xs ++ rest) k) is_index
+            ∙ sym (slice_get-append_after before (xs ++ rest) ahead after) ∙ ap (λ u. slice_get u ahead) (sym e) ∙ is.same inside;
+        some = some;
+        spelled = omega (arith, n, count, is.at_most);
       }

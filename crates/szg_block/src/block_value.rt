@@ -8,8 +8,9 @@ ghost use Rattle.szg_block.specs.Steps.{block_location};
 ghost use Rattle.szg_block.specs.Subtable.{layout_of, IsHeaded};
 
 use crate::probing::ValueLocation;
-use crate::words::{find_up_to, find_verified};
+use crate::words::{find, find_verified};
 use crate::{Sub, SubFault, needed_in};
+use szg_code::Bits;
 
 /// Returns the value at a location in its block, of which no more words are decoded than up to the value. Unless the
 /// block has `passed` before, it verifies that the block's own bits spell `needed` values.
@@ -36,7 +37,7 @@ pub fn value_in_block(
     };
     prove_eq!(code.symbols(), dict.symbols());
     let found = if passed {
-        find_up_to(code, dict, block, location.item)
+        find::<true>(code, dict, Bits::new(block), location.item)
     } else {
         find_verified(code, dict, block, location.item, needed)
     };

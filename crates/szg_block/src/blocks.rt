@@ -24,8 +24,7 @@ pub trait Blocks {
     ghost content: { Self → List ℕ };
 
     ghost buffer_len: { Self → ℕ };
-    // the number of failures of the source, the number of bytes requested from it, and the number of bytes requested
-    // for one block
+    // the number of failures of the source, the number of bytes requested from it, and the number of bytes requested for one block
     ghost failures: { Self → ℕ };
 
     ghost requested: { Self → ℕ };

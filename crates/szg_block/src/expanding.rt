@@ -137,9 +137,8 @@ impl<'a> Sound<'a, Whole<'a>> {
 }
 
 impl<'a, S: Source + Drop> Sound<'a, Paged<S>> {
-    /// Creates the view of a subtable with `size` values whose blocks are read from a source. The subtable must be
-    /// sound with the blocks of `blocks`. `constant` is the value that a constant subtable has at each index. Allocates
-    /// nothing.
+    /// Creates the view of a subtable with `size` values whose blocks are read from a source. The subtable must be sound with the
+    /// blocks of `blocks`. `constant` is the value that a constant subtable has at each index. Allocates nothing.
     pub fn paged(sub: &'a Sub, size: u64, constant: u16, blocks: Paged<S>) -> Sound<'a, Paged<S>>
         requires head { IsShapedHead sub.now size }
         requires count { IfSome (layout_of sub.now) (λ layout. count_of blocks ≡ layout.blocks) }

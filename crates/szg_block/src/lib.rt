@@ -1,10 +1,9 @@
 //! Subtables of a Syzygy table (`PairsData` in the probing code): their shape, the check that accepts exactly the sound
 //! ones, and the values of a sound one.
 //!
-//! A subtable is constant, or has blocks of packed words with a sparse index and block lengths, as in de Man's format.
-//! It is sound if its blocks have enough values, each sparse entry leads to the middle of its span, and the bits of
-//! each block decode to all values that the block needs. A block needs as many values as its length says, or fewer
-//! where the subtable ends within it.
+//! A subtable is constant, or has blocks of packed words with a sparse index and block lengths, as in de Man's format. It is sound
+//! if its blocks have enough values, each sparse entry leads to the middle of its span, and the bits of each block decode to all
+//! values that the block needs. A block needs as many values as its length says, or fewer where the subtable ends within it.
 #![tactic(auto)]
 
 ghost use Rattle.std.specs.Prelude.{ℕ, Bool, ◌≡◌, ◌+◌, ◌++◌, ◌<◌, ◌≤◌, ◌↔◌, ◌^◌, Err, List, IsTrue, IfErr, IfSome, IsSomeAnd, OnOk, length, take};
@@ -49,8 +48,7 @@ pub struct Entry {
     /// The number of a block: an index in `lengths`. It may also be the index of an extra length, or `lengths.len()` in
     /// an entry that points past the last length.
     pub block: u32,
-    /// A number of values, counted from the start of that block. In a sound subtable it leads to the middle of the
-    /// span.
+    /// A number of values, counted from the start of that block. In a sound subtable it leads to the middle of the span.
     pub offset: u16,
 }
 

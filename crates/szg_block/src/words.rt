@@ -1,6 +1,6 @@
 //! The words of one block, and the values of their symbols.
 
-ghost use Rattle.std.specs.Prelude.{ℕ, List, ◌≡◌, ◌<◌, ◌≤◌, ◌+◌, ◌-◌, ◌↔◌, ◌^◌, IsTrue, IfNone, IfSome, length, take, slice_get, Some};
+ghost use Rattle.std.specs.Prelude.{ℕ, List, ◌≡◌, ◌<◌, ◌≤◌, ◌+◌, ◌-◌, ◌↔◌, ◌^◌, ◌++◌, IsTrue, IfNone, IfSome, length, min, take, slice_get, Some};
 ghost use Rattle.szg_code.specs.Acceptance.{IsCode};
 ghost use Rattle.szg_code.specs.Bits.{bits};
 ghost use Rattle.szg_code.specs.Least.{HasBytesAbove};
@@ -8,23 +8,22 @@ ghost use Rattle.szg_pairs.specs.Expansion.{expansion_of};
 ghost use Rattle.szg_block.specs.Reached.{IsAhead, IsReached};
 ghost use Rattle.szg_block.specs.Spelled.{values_spelled, word_at, pairs_above};
 
-use szg_code::{Bits, Code, EndlessBits, next_byte, next_endless, next_two, next_word_if};
+use szg_code::{
+    Bits, Code, EndlessBits, next_byte, next_endless, next_two, next_two_if, next_word_if,
+};
 use szg_pairs::{Descent, Dict};
 
 /// A word that contains a value.
 #[derive(Drop)]
 struct Reached<'a> {
     symbol: u16,
-    /// The number of the word's values.
-    count: u64,
-    /// The value's index among them.
+    /// The value's index among the word's values.
     index: u64,
-    /// The reader, moved past the word.
+    /// The number of values from that one up to the reader.
+    decoded: u64,
+    /// The reader, moved past the word, or past the two words of a byte, of which it is one.
     left: Bits<'a>,
 }
-
-/// The number of bytes that a window holds when it has just been read.
-const WINDOW_BYTES: u64 = 7;
 
 /// Moves the reader past a word of eight bits, or if `TWO` past the two words of a byte, and returns the number of their values.
 /// None if the reader's window doesn't hold such words; then the reader does not move.
@@ -74,7 +73,7 @@ fn skip<const TWO: bool, const BYTES: bool>(
         if !words.refill() {
             break 'windows;
         }
-        for _ in 0..WINDOW_BYTES {
+        for _ in 0..7_u64 {
             let mut next = words.copied();
             let Some(count) = pass::<TWO>(code, above, dict, &mut next) else {
                 break 'windows;
@@ -87,6 +86,40 @@ fn skip<const TWO: bool, const BYTES: bool>(
         }
     }
     ahead
+}
+
+/// Decodes the two words of a byte, if one of them contains the value at `ahead`. None if neither does, if the reader's window
+/// doesn't hold such words, or if they aren't within the bytes.
+#[inline(always)]
+fn reach_in_two<'a>(
+    code: &Code,
+    dict: &Dict,
+    words: &EndlessBits<'a>,
+    ahead: u64,
+) -> Option<Reached<'a>>
+    requires accepted { IsCode code.now }
+    requires symbols { code.now.symbols ≡ length dict.now }
+    ensures { IfSome result (λ reached. (all : List ℕ) (i : ℕ) → IsAhead code.now dict.now all i words.now ahead → IsReached code.now dict.now all i reached) }
+{
+    let mut next = words.copied();
+    let (first, second) = next_two(code, &mut next)?;
+    let before = u64::from(dict.len(first));
+    let count = before + u64::from(dict.len(second));
+    if ahead >= count {
+        return None;
+    }
+    let left = next.within()?;
+    let (symbol, index) = if ahead < before {
+        (first, ahead)
+    } else {
+        (second, ahead - before)
+    };
+    Some(Reached {
+        symbol,
+        index,
+        decoded: count - ahead,
+        left,
+    })
 }
 
 /// Decodes words up to the one that contains the value at `index`. None if the bits left spell too few values. Whether the last
@@ -103,29 +136,30 @@ fn reach_by<'a, const TWO: bool, const TABLE: bool, const BYTES: bool>(
     requires accepted { IsCode code.now }
     requires above { HasBytesAbove code.now above }
     requires symbols { code.now.symbols ≡ length dict.now }
-    ensures found { IfSome result (IsReached code.now dict.now left.entry.left index) }
+    ensures found { IfSome result (IsReached code.now dict.now (values_spelled code.now dict.now left.entry.left) index) }
     ensures none { IfNone result (length (values_spelled code.now dict.now left.entry.left) ≤ index) }
 {
     let mut left = left.endless();
     let mut ahead = index;
     'words: loop {
-        let stop = skip::<TWO, BYTES>(code, above, dict, &mut left, ahead);
-        ahead = stop;
-        // the value is often in the second of two words that were not passed
-        'next_words: for n in 0..2_u64 {
-            let symbol = next_endless::<TABLE>(code, &mut left)?;
-            let count = u64::from(dict.len(symbol));
-            if ahead < count {
-                let left = left.within()?;
-                return Some(Reached {
-                    symbol,
-                    count,
-                    index: ahead,
-                    left,
-                });
+        ahead = skip::<TWO, BYTES>(code, above, dict, &mut left, ahead);
+        if TWO {
+            if let Some(reached) = reach_in_two(code, dict, &left, ahead) {
+                return Some(reached);
             }
-            ahead -= count;
         }
+        let symbol = next_endless::<TABLE>(code, &mut left)?;
+        let count = u64::from(dict.len(symbol));
+        if ahead < count {
+            let left = left.within()?;
+            return Some(Reached {
+                symbol,
+                index: ahead,
+                decoded: count - ahead,
+                left,
+            });
+        }
+        ahead -= count;
     }
 }
 
@@ -134,7 +168,7 @@ fn reach_by<'a, const TWO: bool, const TABLE: bool, const BYTES: bool>(
 fn reach_by_table<'a>(code: &Code, dict: &Dict, left: Bits<'a>, index: u64) -> Option<Reached<'a>>
     requires accepted { IsCode code.now }
     requires symbols { code.now.symbols ≡ length dict.now }
-    ensures found { IfSome result (IsReached code.now dict.now left.entry.left index) }
+    ensures found { IfSome result (IsReached code.now dict.now (values_spelled code.now dict.now left.entry.left) index) }
     ensures none { IfNone result (length (values_spelled code.now dict.now left.entry.left) ≤ index) }
 {
     let above = code.bytes_above();
@@ -150,7 +184,7 @@ fn reach_by_table<'a>(code: &Code, dict: &Dict, left: Bits<'a>, index: u64) -> O
 fn reach<'a>(code: &Code, dict: &Dict, left: Bits<'a>, index: u64) -> Option<Reached<'a>>
     requires accepted { IsCode code.now }
     requires symbols { code.now.symbols ≡ length dict.now }
-    ensures found { IfSome result (IsReached code.now dict.now left.entry.left index) }
+    ensures found { IfSome result (IsReached code.now dict.now (values_spelled code.now dict.now left.entry.left) index) }
     ensures none { IfNone result (length (values_spelled code.now dict.now left.entry.left) ≤ index) }
 {
     let above = code.bytes_above();
@@ -163,21 +197,54 @@ fn reach<'a>(code: &Code, dict: &Dict, left: Bits<'a>, index: u64) -> Option<Rea
     }
 }
 
-/// Returns whether the bits left spell more than `index` values, by the code's tables of first bytes.
+/// As `find`, by `reach_by`.
 #[inline(never)]
-fn spells_by_table<const TWO: bool>(
+fn find_by<const TWO: bool, const TABLE: bool, const BYTES: bool, const VALUE: bool>(
     code: &Code,
     above: u64,
     dict: &Dict,
     left: Bits,
     index: u64,
-) -> bool
+) -> Option<u16>
     requires accepted { IsCode code.now }
     requires above { HasBytesAbove code.now above }
     requires symbols { code.now.symbols ≡ length dict.now }
-    ensures { IsTrue result ↔ (index < length (values_spelled code.now dict.now left.entry.left)) }
+    ensures value { IfSome result (λ value. IsTrue VALUE → slice_get (values_spelled code.now dict.now left.entry.left) index ≡ Some value) }
+    ensures some { IfSome result (λ _. index < length (values_spelled code.now dict.now left.entry.left)) }
+    ensures none { IfNone result (length (values_spelled code.now dict.now left.entry.left) ≤ index) }
 {
-    reach_by::<TWO, true, false>(code, above, dict, left, index).is_some()
+    let reached = reach_by::<TWO, TABLE, BYTES>(code, above, dict, left, index)?;
+    if !VALUE {
+        return Some(0);
+    }
+    Some(dict.value_at(reached.symbol, reached.index as u16))
+}
+
+/// Returns the value at `index` among those that the bits left spell, or 0 in its place if not `VALUE`. None if they spell too few.
+/// No more words are decoded than up to the value. It relies on nothing that they spell.
+#[inline(always)]
+pub(crate) fn find<const VALUE: bool>(
+    code: &Code,
+    dict: &Dict,
+    left: Bits,
+    index: u64,
+) -> Option<u16>
+    requires accepted { IsCode code.now }
+    requires symbols { code.now.symbols ≡ length dict.now }
+    ensures value { IfSome result (λ value. IsTrue VALUE → slice_get (values_spelled code.now dict.now left.entry.left) index ≡ Some value) }
+    ensures some { IfSome result (λ _. index < length (values_spelled code.now dict.now left.entry.left)) }
+    ensures none { IfNone result (length (values_spelled code.now dict.now left.entry.left) ≤ index) }
+{
+    let above = code.bytes_above();
+    if above < u64::MAX {
+        find_by::<false, false, true, VALUE>(code, above, dict, left, index)
+    } else if code.is_read_word_by_word() {
+        find_by::<false, false, false, VALUE>(code, above, dict, left, index)
+    } else if code.has_two_words() {
+        find_by::<true, true, false, VALUE>(code, above, dict, left, index)
+    } else {
+        find_by::<false, true, false, VALUE>(code, above, dict, left, index)
+    }
 }
 
 /// Returns whether the bits left spell `needed` values or more.
@@ -187,19 +254,7 @@ pub(crate) fn spells(code: &Code, dict: &Dict, left: Bits, needed: u64) -> bool
     requires symbols { code.now.symbols ≡ length dict.now }
     ensures { IsTrue result ↔ (needed ≤ length (values_spelled code.now dict.now left.entry.left)) }
 {
-    if needed == 0 {
-        return true;
-    }
-    let (index, above) = (needed - 1, code.bytes_above());
-    if above < u64::MAX {
-        reach_by::<false, false, true>(code, above, dict, left, index).is_some()
-    } else if code.is_read_word_by_word() {
-        reach_by::<false, false, false>(code, above, dict, left, index).is_some()
-    } else if code.has_two_words() {
-        spells_by_table::<true>(code, above, dict, left, index)
-    } else {
-        spells_by_table::<false>(code, above, dict, left, index)
-    }
+    needed == 0 || find::<false>(code, dict, left, needed - 1).is_some()
 }
 
 /// Returns the value at `index` in a block, in one pass over the words of the block's first `needed` values. None if
@@ -220,66 +275,11 @@ pub(crate) fn find_verified(
     ensures few { IfNone result (¬ (needed ≤ length (values_spelled code.now dict.now (bits block.now)))) }
 {
     let reached = reach(code, dict, Bits::new(block), index)?;
-    let before = index - reached.index;
-    let missing = (needed - before).saturating_sub(reached.count);
+    let missing = (needed - index).saturating_sub(reached.decoded);
     if !spells(code, dict, reached.left, missing) {
         return None;
     }
     Some(dict.value_at(reached.symbol, reached.index as u16))
-}
-
-/// Returns the value at `index` among those that the bits left spell, by `reach_by`. None if they spell too few.
-#[inline(never)]
-fn find_by<const TWO: bool, const TABLE: bool, const BYTES: bool>(
-    code: &Code,
-    above: u64,
-    dict: &Dict,
-    left: Bits,
-    index: u64,
-) -> Option<u16>
-    requires accepted { IsCode code.now }
-    requires above { HasBytesAbove code.now above }
-    requires symbols { code.now.symbols ≡ length dict.now }
-    ensures value { IfSome result (λ value. slice_get (values_spelled code.now dict.now left.entry.left) index ≡ Some value) }
-    ensures none { IfNone result (length (values_spelled code.now dict.now left.entry.left) ≤ index) }
-{
-    let reached = reach_by::<TWO, TABLE, BYTES>(code, above, dict, left, index)?;
-    Some(dict.value_at(reached.symbol, reached.index as u16))
-}
-
-/// Returns the value at `index` in a block, of which no more words are decoded than up to the value. None if the block's
-/// bits spell no more than `index` values. It relies on nothing that they spell.
-pub(crate) fn find_up_to(code: &Code, dict: &Dict, block: &[u8], index: u64) -> Option<u16>
-    requires accepted { IsCode code.now }
-    requires symbols { code.now.symbols ≡ length dict.now }
-    requires size { length block.now ≤ 2 ^ 60 }
-    ensures value { IfSome result (λ value. slice_get (values_spelled code.now dict.now (bits block.now)) index ≡ Some value) }
-    ensures none { IfNone result (length (values_spelled code.now dict.now (bits block.now)) ≤ index) }
-{
-    let (left, above) = (Bits::new(block), code.bytes_above());
-    if above < u64::MAX {
-        find_by::<false, false, true>(code, above, dict, left, index)
-    } else if code.is_read_word_by_word() {
-        find_by::<false, false, false>(code, above, dict, left, index)
-    } else if code.has_two_words() {
-        find_by::<true, true, false>(code, above, dict, left, index)
-    } else {
-        find_by::<false, true, false>(code, above, dict, left, index)
-    }
-}
-
-/// Returns the value at `index` in a block whose own bits spell more than `index` values.
-pub fn value_at(code: &Code, dict: &Dict, block: &[u8], index: u64) -> u16
-    requires accepted { IsCode code.now }
-    requires symbols { code.now.symbols ≡ length dict.now }
-    requires size { length block.now ≤ 2 ^ 60 }
-    requires within { index < length (values_spelled code.now dict.now (bits block.now)) }
-    ensures { slice_get (values_spelled code.now dict.now (bits block.now)) index ≡ Some result }
-{
-    let Some(value) = find_up_to(code, dict, block, index) else {
-        unreachable!()
-    };
-    value
 }
 
 /// Decodes the value at `index` in a block, word by word from the block's start. Returns the descent to it and the number
@@ -330,6 +330,23 @@ fn write_symbol(dict: &Dict, symbol: u16, values: &mut [u16])
     write_symbol(dict, right, &mut values[length..]);
 }
 
+/// Writes the values of a symbol from offset `at` on, as many as `values` has room for. Returns the offset after them.
+#[inline(always)]
+fn write_word(dict: &Dict, symbol: u16, values: &mut [u16], at: usize) -> usize
+    requires there { symbol < length dict.now }
+    requires within { at ≤ length values.old }
+    ensures long { length values.new ≡ length values.old }
+    ensures more { at < length values.old → at < result }
+    ensures at { result ≡ at + min (length (expansion_of dict.now symbol)) (length values.old - at) }
+    ensures written { (rest : List ℕ) → take result values.new ++ take (length values.new - result) rest ≡ take at values.old ++ take (length values.old - at) (expansion_of dict.now symbol ++ rest) }
+{
+    let count = (dict.len(symbol) as usize).min(values.len() - at);
+    if count > 0 {
+        write_symbol(dict, symbol, &mut values[at..at + count]);
+    }
+    at + count
+}
+
 /// Writes the first values of a block whose own bits spell at least as many as `values` has room for.
 pub fn write_values(code: &Code, dict: &Dict, block: &[u8], values: &mut [u16])
     requires accepted { IsCode code.now }
@@ -338,14 +355,20 @@ pub fn write_values(code: &Code, dict: &Dict, block: &[u8], values: &mut [u16])
     requires within { length values.old ≤ length (values_spelled code.now dict.now (bits block.now)) }
     ensures { values.new ≡ take (length values.old) (values_spelled code.now dict.now (bits block.now)) }
 {
+    let two = code.has_two_words();
     let mut words = Bits::new(block);
     let mut at = 0;
     'words: while at < values.len() {
+        if two {
+            if let Some((first, second)) = next_two_if(code, &mut words) {
+                at = write_word(dict, first, values, at);
+                at = write_word(dict, second, values, at);
+                continue 'words;
+            }
+        }
         let Some(symbol) = next_word_if::<true>(code, &mut words) else {
             unreachable!()
         };
-        let count = (dict.len(symbol) as usize).min(values.len() - at);
-        write_symbol(dict, symbol, &mut values[at..at + count]);
-        at += count;
+        at = write_word(dict, symbol, values, at);
     }
 }

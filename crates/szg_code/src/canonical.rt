@@ -13,11 +13,10 @@ use crate::code_word::Word;
 use crate::two_words::{NO_WORDS, TwoWords, two_words_by_byte};
 use std::marker::Model;
 
-/// An accepted code: words of 1 to 32 bits, none of which begins another, for symbols below the number of symbols.
-/// As in de Man's probing code, it stores the base of each length shifted to the top of 64 bits. For each first
-/// byte of a window it also stores the length from which the search for a word's length starts, and for each length the
-/// symbol that the number 0 would have, modulo 2^64, to which a word's number is only added. If most bytes contain two
-/// whole words, it stores the first two words of each byte.
+/// An accepted code: words of 1 to 32 bits, none of which begins another, for symbols below the number of symbols. As in de Man's
+/// probing code, it stores the base of each length shifted to the top of 64 bits. For each first byte of a window it also stores
+/// the length from which the search for a word's length starts, and for each length the symbol that the number 0 would have, modulo
+/// 2^64, to which a word's number is only added. If most bytes contain two whole words, it stores the first two words of each byte.
 #[derive(Drop)]
 pub struct Code {
     header: CodeHeader,
@@ -47,10 +46,9 @@ impl Code {
     /// bits, `lowest` has the lowest symbol of each length from `min` on, and `n` is the number of symbols. The list
     /// is moved, not copied. The call allocates nothing; that is seen by reading, no clause says it.
     ///
-    /// Errors: `Lengths` if `min` is 0, `min` is above `max`, `max` is above 32, or the length of the list is not
-    /// `max - min + 1`. Else `LowestOrder` if the list increases somewhere. Else `TooFull` if the bases that follow
-    /// from the list, as in de Man's format, leave too few words for the next length, or if the words of the least
-    /// length do not fit it.
+    /// Errors: `Lengths` if `min` is 0, `min` is above `max`, `max` is above 32, or the length of the list is not `max - min + 1`.
+    /// Else `LowestOrder` if the list increases somewhere. Else `TooFull` if the bases that follow from the list, as in de Man's
+    /// format, leave too few words for the next length, or if the words of the least length do not fit it.
     pub fn new(min: u8, max: u8, lowest: Vec<u16>, n: u16) -> Result<Code, CodeFault>
         ensures accepted { IfOk result (λ code. IsCode code
             × (code ≡ record { min_length = min; max_length = max; lowest = lowest.items; symbols = n })) }
@@ -255,22 +253,12 @@ impl Code {
         zero_symbols[length].wrapping_add(window >> (64 - length))
     }
 
-    /// Returns whether eight bits is the least length, and at most one of 64 windows begins with a longer word.
-    fn has_mostly_bytes(&self) -> bool
-        ensures { IsTrue result → self.now.min_length ≡ 8 }
-    {
-        if self.header.min != 8 {
-            return false;
-        }
-        self.bases[8] <= LEAST_WINDOWS
-    }
-
     /// Returns a bound above which each window begins with a word of eight bits, the least length, that has a symbol. The bound
     /// is the greatest number if some such word has none, or if more than one of 64 windows begins with a longer word.
     pub fn bytes_above(&self) -> u64
         ensures { HasBytesAbove self.now result }
     {
-        if self.has_mostly_bytes() {
+        if self.header.min == 8 && self.bases[8] <= LEAST_WINDOWS {
             match self.symbol_of(self.symbol_number(u64::MAX, 8)) {
                 Some(_) => self.bases[8],
                 None => u64::MAX,

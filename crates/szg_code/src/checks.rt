@@ -33,8 +33,7 @@ impl CodeHeader {
             && self.lowest.len() == usize::from(self.max - self.min) + 1
     }
 
-    /// Returns the first index of a lowest symbol that is above the one before it. None if the list never
-    /// increases.
+    /// Returns the first index of a lowest symbol that is above the one before it. None if the list never increases.
     pub(crate) fn first_rise(&self) -> Option<u8>
         requires { HasLengths (code_of self.now) }
         ensures found { IfSome result (λ j. IsFirstRise (code_of self.now) j) }

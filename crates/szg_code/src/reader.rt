@@ -302,3 +302,16 @@ pub fn next_two(code: &Code, words: &mut EndlessBits) -> Option<(u16, u16)>
     };
     Some((two.first, two.second))
 }
+
+/// Decodes two words as `next_two` does, if they are within the bytes. Otherwise None, and the reader does not move.
+#[inline(always)]
+pub fn next_two_if(code: &Code, words: &mut Bits) -> Option<(u16, u16)>
+    ensures there { IfSome result (λ two. (two.0 < code.now.symbols) × (two.1 < code.now.symbols)) }
+    ensures found { IfSome result (λ two. TakesWords code.now words.old words.new (two.0 ∷ two.1 ∷ [])) }
+    ensures none { IfNone result (words.new ≡ words.old) }
+{
+    let mut moved = words.reader.copied();
+    let two = next_two(code, &mut moved)?;
+    *words = moved.within()?;
+    Some(two)
+}

@@ -14,7 +14,7 @@ use Rattle.szg_block.proofs.block_value.value_in_block.Goals as goal
 pub returns-in-Some-clause-value : goal.returns-in-Some-clause-value
 returns-in-Some-clause-value c =
     elim c.if-passed.branch [
-      | then-passed w ↦ rw c.in-Pairs.is (sym (spelled_at _ _ _ _ c.args.location.item refl (rw (sym w.found-is ∙ c.in-Some.is) at w.find_up_to-found.ensures.value)))
+      | then-passed w ↦ rw c.in-Pairs.is (sym (spelled_at _ _ _ _ c.args.location.item refl (rw w.new.ensures.left at ((rw (sym w.found-is ∙ c.in-Some.is) at w.find-found.ensures.value) refl))))
       | else-passed w ↦ rw c.in-Pairs.is (sym (spelled_at _ _ _ _ c.args.location.item refl (rw (sym w.found-is ∙ c.in-Some.is) at w.find_verified-found.ensures.value)))
     ]
 
@@ -33,7 +33,7 @@ pub returns-in-None-clause-few : goal.returns-in-None-clause-few
 returns-in-None-clause-few c =
     let layout : Layout = layout_from c.in-Pairs.block_bits c.in-Pairs.span_bits c.in-Pairs.extra c.in-Pairs.blocks c.in-Pairs.code c.in-Pairs.dict c.in-Pairs.sparse.items c.in-Pairs.lengths.items in
     let fewer : length (values_spelled c.in-Pairs.code c.in-Pairs.dict (bits c.args.block.now)) < c.args.needed = elim c.if-passed.branch [
-      | then-passed w ↦ omega (arith, rw (sym w.found-is ∙ c.in-None.is) at w.find_up_to-found.ensures.none, c.requires.within)
+      | then-passed w ↦ omega (arith, rw (w.new.ensures.left, sym w.found-is ∙ c.in-None.is) at w.find-found.ensures.none, c.requires.within)
       | else-passed w ↦ elim (cases_lt (length (values_spelled c.in-Pairs.code c.in-Pairs.dict (bits c.args.block.now))) c.args.needed) [
         | inl less ↦ less
         | inr more ↦ absurd ((rw (sym w.found-is ∙ c.in-None.is) at w.find_verified-found.ensures.few) more)

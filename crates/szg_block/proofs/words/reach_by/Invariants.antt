@@ -1,4 +1,3 @@
-use Rattle.std.proofs.Common.{◌+◌, ◌≤◌}
 use Rattle.szg_block.specs.Reached.{IsAhead}
 use Rattle.szg_block.specs.Spelled.{values_spelled}
 use Rattle.szg_block.proofs.words.reach_by.Given as goal
@@ -8,9 +7,3 @@ invariant-words g l = IsAhead l.code l.dict (values_spelled l.code l.dict l.fn.l
 
 abbrev pub decreases-words : goal.decreases-words
 decreases-words g l = l.ahead
-
-abbrev pub invariant-next_words : goal.invariant-next_words
-invariant-next_words g l = record {
-  is : IsAhead l.code l.dict (values_spelled l.code l.dict l.fn.left.left) l.index l.left l.ahead;
-  fewer : l.ahead + l.n ≤ l.stop;
-}

@@ -1,4 +1,4 @@
-use Rattle.std.proofs.Common.{◌≡◌, ℕ, ◌*◌, ◌/◌, ◌^◌, ◌<◌, ◌≤◌, refl, subst, arith}
+use Rattle.std.proofs.Common.{◌≡◌, ℕ, ◌*◌, ◌/◌, ◌^◌, ◌<◌, ◌≤◌, refl, ap, sym, ◌∙◌, subst, arith}
 use Rattle.szg_code.specs.Acceptance.{IsCode}
 use Rattle.szg_code.specs.Canonical.{CanonicalCode, base, symbol_at}
 use Rattle.szg_code.specs.CodeHeader.{code_of}
@@ -20,7 +20,7 @@ symbol_number-requires c =
     let code : CanonicalCode = c.args.self.now in
     let accepted : IsCode code = subst IsCode c.self.view_is c.self.invariant.0 in
     let order = accepted.lengths.in_order in
-    let least : code.min_length ≡ 8 = c.if-has_mostly_bytes.ensures refl in
+    let least : code.min_length ≡ 8 = ap (λ (k : CanonicalCode). k.min_length) (sym c.self.view_is) ∙ c.if-self-eq8.true in
     record {
       long = omega (arith, least);
       short = omega (arith, least, order);
@@ -34,7 +34,7 @@ returns-in-Some c window above fits =
     let bases : HasShiftedBases code c.self.inside.bases = subst (λ (k : CanonicalCode). HasShiftedBases k c.self.inside.bases) is c.self.invariant.1 in
     let accepted : IsCode code = subst IsCode is c.self.invariant.0 in
     let order = accepted.lengths.in_order in
-    let least : code.min_length ≡ 8 = c.if-has_mostly_bytes.ensures refl in
+    let least : code.min_length ≡ 8 = ap (λ (k : CanonicalCode). k.min_length) (sym c.self.view_is) ∙ c.if-self-eq8.true in
     let at = bases 8 (omega (arith, least)) (omega (arith, least, order)) in
     let last : c.symbol_number.result ≡ symbol_at code 8 255 = c.symbol_number.ensures in
     let low = symbol_at-least code (window / 2 ^ 56) 255 (omega (arith, fits)) in
@@ -44,5 +44,5 @@ returns-in-Some c window above fits =
 pub returns-in-None : goal.returns-in-None
 returns-in-None c window above fits = absurd (omega (arith, above, fits))
 
-pub returns-else-has_mostly_bytes : goal.returns-else-has_mostly_bytes
-returns-else-has_mostly_bytes c window above fits = absurd (omega (arith, above, fits))
+pub returns-else-self-eq8 : goal.returns-else-self-eq8
+returns-else-self-eq8 c window above fits = absurd (omega (arith, above, fits))
