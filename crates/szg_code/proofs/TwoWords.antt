@@ -11,7 +11,7 @@ use Rattle.szg_code.specs.Canonical.{CanonicalCode}
 use Rattle.szg_code.specs.Cursor.{Cursor, TakesWord}
 use Rattle.szg_code.specs.Spelling.{BeginsWithOneAtMost, BeginsWithWord}
 use Rattle.szg_code.specs.Window.{IsWindow}
-use Rattle.szg_code.specs.TwoWords.{BeginsWithTwoWords, ContainsTwoWords, HasTwoWords, no_words}
+use Rattle.szg_code.specs.TwoWords.{BeginsWithTwoWords, ContainsTwoWords, HasTwoWords, words_at}
 use Rattle.szg_code.specs.declared.two_words.TwoWords.{TwoWords}
 use Rattle.szg_code.proofs.Numbers.{length-bits_of_number, number-bits_of_number, number-injective, mod-small}
 use Rattle.szg_code.proofs.ByteBits.{bits-cons, bits-nil}
@@ -47,25 +47,37 @@ begins_with_taken code byte words start middle end none all first second count =
 
 -- ---- the list of them
 
-pub none_by_byte : (code : CanonicalCode) → HasTwoWords code (replicate 256 no_words)
+pub none_by_byte : (code : CanonicalCode) → HasTwoWords code (replicate 256 0) (replicate 256 0) (replicate 256 0)
 none_by_byte code byte some =
-    let none : get_or (replicate 256 no_words) byte no_words ≡ no_words =
+    let zero : ℕ = 0 in
+    let none : get_or (replicate 256 zero) byte zero ≡ zero =
     elim (cases_lt byte 256) [
-      | inl inside ↦ get_or-replicate 256 byte no_words no_words inside
-      | inr outside ↦ get_or_past (replicate 256 no_words) byte no_words (omega arith)
+      | inl inside ↦ get_or-replicate 256 byte zero zero inside
+      | inr outside ↦ get_or_past (replicate 256 zero) byte zero (omega arith)
     ] in
-    let zero_bits : (get_or (replicate 256 no_words) byte no_words).bits ≡ 0 = ap (λ (u : TwoWords). u.bits) none in
-    absurd (omega (arith, some, zero_bits))
+    absurd (omega (arith, some, none))
 
-pub one_more_byte : (code : CanonicalCode) (list : List TwoWords) (byte : ℕ) (words : TwoWords) → byte < length list → HasTwoWords code list → ContainsTwoWords code byte words → HasTwoWords code (set list byte words)
-one_more_byte code list byte words there has here k =
+abbrev words_of : ℕ → ℕ → ℕ → TwoWords
+words_of a b c = record { first = a; second = b; bits = c }
+
+same_words : (a b c x y z : ℕ) → a ≡ x → b ≡ y → c ≡ z → words_of a b c ≡ words_of x y z
+same_words a b c x y z p q r = cc
+
+pub one_more_byte : (code : CanonicalCode) (bits first second : List ℕ) (byte : ℕ) (words : TwoWords) → byte < length bits → byte < length first → byte < length second →
+    HasTwoWords code bits first second → ContainsTwoWords code byte words → HasTwoWords code (set bits byte words.bits) (set first byte words.first) (set second byte words.second)
+one_more_byte code bits first second byte words in_bits in_first in_second has here k =
+    let other : k ≢ byte → ContainsTwoWords code k (words_at (set bits byte words.bits) (set first byte words.first) (set second byte words.second) k) =
+    λ apart.
+    let e = same_words _ _ _ _ _ _ (get_or-set_other first byte k words.first 0 apart) (get_or-set_other second byte k words.second 0 apart) (get_or-set_other bits byte k words.bits 0 apart) in
+    subst (ContainsTwoWords code k) (sym e) (has k) in
     elim (cases_lt k byte) [
-      | inl before ↦ let other : k ≢ byte = omega arith in subst (ContainsTwoWords code k) (sym (get_or-set_other list byte k words no_words other)) (has k)
+      | inl before ↦ other (omega arith)
       | inr later ↦ elim (cases_lt byte k) [
-        | inl after ↦ let other : k ≢ byte = omega arith in subst (ContainsTwoWords code k) (sym (get_or-set_other list byte k words no_words other)) (has k)
+        | inl after ↦ other (omega arith)
         | inr at ↦
             let same : k ≡ byte = omega arith in
-            subst (ContainsTwoWords code k) (sym (get_or-set_at list byte k words no_words same there)) (subst (λ (n : ℕ). ContainsTwoWords code n words) (sym same) here)
+            let e = same_words _ _ _ _ _ _ (get_or-set_at first byte k words.first 0 same in_first) (get_or-set_at second byte k words.second 0 same in_second) (get_or-set_at bits byte k words.bits 0 same in_bits) in
+            subst (ContainsTwoWords code k) (sym e) (subst (λ (n : ℕ). ContainsTwoWords code n words) (sym same) here)
       ]
     ]
 

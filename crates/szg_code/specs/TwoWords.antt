@@ -17,10 +17,10 @@ pub record BeginsWithTwoWords (code : CanonicalCode) (byte : ℕ) (words : TwoWo
 abbrev pub ContainsTwoWords : CanonicalCode → ℕ → TwoWords → Type 0
 ContainsTwoWords code byte words = 0 < words.bits → BeginsWithTwoWords code byte words
 
--- no words
-abbrev pub no_words : TwoWords
-no_words = record { first = 0; second = 0; bits = 0 }
+-- what the three lists have for a byte; past their end, no words
+abbrev pub words_at : List ℕ → List ℕ → List ℕ → ℕ → TwoWords
+words_at bits first second byte = record { first = get_or first byte 0; second = get_or second byte 0; bits = get_or bits byte 0 }
 
--- the list has the first two words of each byte
-abbrev pub HasTwoWords : CanonicalCode → List TwoWords → Type 0
-HasTwoWords code list = (byte : ℕ) → ContainsTwoWords code byte (get_or list byte no_words)
+-- the lists have the first two words of each byte
+abbrev pub HasTwoWords : CanonicalCode → List ℕ → List ℕ → List ℕ → Type 0
+HasTwoWords code bits first second = (byte : ℕ) → ContainsTwoWords code byte (words_at bits first second byte)

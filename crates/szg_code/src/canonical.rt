@@ -10,7 +10,7 @@ ghost use Rattle.szg_code.specs.TwoWords.{ContainsTwoWords};
 use crate::CodeFault;
 use crate::checks::CodeHeader;
 use crate::code_word::Word;
-use crate::two_words::{NO_WORDS, TwoWords, two_words_by_byte};
+use crate::two_words::{NO_WORDS, TwoWords, TwoWordsByByte, two_words_by_byte};
 use std::marker::Model;
 
 /// An accepted code: words of 1 to 32 bits, none of which begins another, for symbols below the number of symbols. As in de Man's
@@ -23,7 +23,7 @@ pub struct Code {
     bases: [u64; 34],
     starts: [u8; 256],
     zero_symbols: [u64; 33],
-    two_words: Option<[TwoWords; 256]>,
+    two_words: Option<TwoWordsByByte>,
 }
 
 impl Model for Code {
@@ -38,7 +38,7 @@ impl Model for Code {
 
     ghost view = { λ code. code_of code.header };
 
-    ghost invariant = { λ code. IsCode (code_of code.header) × HasShiftedBases (code_of code.header) code.bases × HasStarts (code_of code.header) code.starts × HasZeroSymbols (code_of code.header) code.zero_symbols × IfSome code.two_words (λ list. HasTwoWords (code_of code.header) list × (code.header.min ≤ 4)) };
+    ghost invariant = { λ code. IsCode (code_of code.header) × HasShiftedBases (code_of code.header) code.bases × HasStarts (code_of code.header) code.starts × HasZeroSymbols (code_of code.header) code.zero_symbols × IfSome code.two_words (λ all. HasTwoWords (code_of code.header) all.bits all.first all.second × (code.header.min ≤ 4)) };
 }
 
 impl Code {
@@ -162,7 +162,14 @@ impl Code {
         ensures words { ContainsTwoWords self.now (window / 2 ^ 56) result }
     {
         match &self.two_words {
-            Some(two_words) => two_words[(window >> 56) as usize],
+            Some(all) => {
+                let byte = (window >> 56) as usize;
+                TwoWords {
+                    first: all.first[byte],
+                    second: all.second[byte],
+                    bits: all.bits[byte],
+                }
+            }
             None => NO_WORDS,
         }
     }

@@ -40,24 +40,42 @@ fn two_words_of(code: &Code, byte: u8) -> TwoWords
     }
 }
 
+/// The first two words of each byte, their symbols and the number of their bits apart: the next step waits for that number, and an
+/// entry of one byte is found by the byte itself.
+#[derive(Clone, Copy)]
+pub(crate) struct TwoWordsByByte {
+    pub bits: [u8; 256],
+    pub first: [u16; 256],
+    pub second: [u16; 256],
+}
+
 /// The fewest bytes with two words for which they are stored. With fewer, decoding two words at a step would be tried
 /// in vain too often.
 const FEWEST_BYTES: usize = 192;
 
 /// Decodes the first two words of each byte. None if too few bytes contain two words.
-pub(crate) fn two_words_by_byte(code: &Code) -> Option<[TwoWords; 256]>
-    ensures words { IfSome result (HasTwoWords code.now) }
+pub(crate) fn two_words_by_byte(code: &Code) -> Option<TwoWordsByByte>
+    ensures words { IfSome result (λ all. HasTwoWords code.now all.bits all.first all.second) }
     ensures short { IfSome result (λ _. code.now.min_length ≤ 4) }
 {
     if code.min() > 4 {
         return None;
     }
-    let mut two_words = [NO_WORDS; 256];
+    let mut bits = [0u8; 256];
+    let mut first = [0u16; 256];
+    let mut second = [0u16; 256];
     for byte in 0..256usize {
-        two_words[byte] = two_words_of(code, byte as u8);
+        let words = two_words_of(code, byte as u8);
+        bits[byte] = words.bits;
+        first[byte] = words.first;
+        second[byte] = words.second;
     }
-    if two_words.iter().filter(|words| words.bits > 0).count() < FEWEST_BYTES {
+    if bits.iter().filter(|count| **count > 0).count() < FEWEST_BYTES {
         return None;
     }
-    Some(two_words)
+    Some(TwoWordsByByte {
+        bits,
+        first,
+        second,
+    })
 }

@@ -41,8 +41,7 @@ pub enum Reason {
     /// A lowest symbol is greater than the previous one.
     #[error("LowestOrder")]
     LowestOrder = 11,
-    /// The words do not fit: a doubled base is below the base of the next length, or the least length has too many
-    /// words.
+    /// The words do not fit: a doubled base is below the base of the next length, or the least length has too many words.
     #[error("TooFull")]
     TooFull = 12,
     /// An entry has a child that does not exist.

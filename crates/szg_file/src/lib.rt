@@ -1,5 +1,4 @@
-//! Whole Syzygy table files, WDL (`.rtbw`) and DTZ (`.rtbz`): read with every check, written back byte for byte,
-//! and looked up.
+//! Whole Syzygy table files, WDL (`.rtbw`) and DTZ (`.rtbz`): read with every check, written back byte for byte, and looked up.
 #![tactic(auto)]
 
 mod assembled;

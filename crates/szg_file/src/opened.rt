@@ -97,8 +97,7 @@ impl<S: Source + Drop> Opened<S> {
     /// Returns value `i` of a part's side. Allocates nothing. It requests one block from the source, or none for a
     /// constant subtable.
     ///
-    /// Errors: the source failed, which never happens for a constant subtable. An error has no effect on later
-    /// calls.
+    /// Errors: the source failed, which never happens for a constant subtable. An error has no effect on later calls.
     pub fn get(&mut self, part: u8, side: u8, i: u64) -> Result<u16, SourceFault>
         requires there { IsSome (opened_at self.old part side) }
         requires below { IfSome (opened_at self.old part side) (λ found. i < found.0.size) }

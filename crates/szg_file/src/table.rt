@@ -105,9 +105,8 @@ impl Table {
         self.index.maps()
     }
 
-    /// Returns the padding bytes (the "fill bytes" of the format) in file order: those up to even offsets and to
-    /// multiples of 64, and the one after each dictionary with an odd number of entries. Their values are
-    /// arbitrary, and preserved.
+    /// Returns the padding bytes (the "fill bytes" of the format) in file order: those up to even offsets and to multiples of 64,
+    /// and the one after each dictionary with an odd number of entries. Their values are arbitrary, and preserved.
     pub fn fill(&self) -> &[u8]
         ensures bytes { result.now ≡ self.now.filled }
         ensures accepted { IsAccepted self.now.contents self.now.filled }

@@ -1,5 +1,4 @@
-//! Pairs of symbols: how a list of values becomes a dictionary and a text. A text is a list of symbols that expands to
-//! the values.
+//! Pairs of symbols: how a list of values becomes a dictionary and a text. A text is a list of symbols that expands to the values.
 
 pub(crate) mod accepting;
 pub(crate) mod cells;

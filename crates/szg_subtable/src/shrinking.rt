@@ -1,13 +1,11 @@
-//! Chooses the pairs of a subtable of a small table and spells its values with them: tries several choices and counts
-//! their bytes.
+//! Chooses the pairs of a subtable of a small table and spells its values with them: tries several choices and counts their bytes.
 //!
-//! A list of more than `MOST_VALUES` values gets all pairs, and nothing is tried. For a shorter one the first tries are
-//! the text without pairs, with 256 pairs and with all pairs. Then, beginning with all pairs, the pairs that save the
-//! fewest bits are dropped and the values are spelled again, with a bound that rises at each try. If neither the list
-//! nor the dictionary is too long (`FEW_VALUES`, `FEW_SYMBOLS`), pairs are then added to the best text and dropped
-//! again, several times, and after that single pairs are dropped. At the end the values are spelled again with the code
-//! of the best text. A spelling of a long list that visits too many tree nodes (`LIMIT`) is given up, and the best text
-//! so far stays.
+//! A list of more than `MOST_VALUES` values gets all pairs, and nothing is tried. For a shorter one the first tries are the text
+//! without pairs, with 256 pairs and with all pairs. Then, beginning with all pairs, the pairs that save the fewest bits are
+//! dropped and the values are spelled again, with a bound that rises at each try. If neither the list nor the dictionary is too
+//! long (`FEW_VALUES`, `FEW_SYMBOLS`), pairs are then added to the best text and dropped again, several times, and after that
+//! single pairs are dropped. At the end the values are spelled again with the code of the best text. A spelling of a long list that
+//! visits too many tree nodes (`LIMIT`) is given up, and the best text so far stays.
 //!
 //! Only the safety of this code is proved: its result is a proposal, and proposals are tested.
 

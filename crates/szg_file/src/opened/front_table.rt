@@ -27,8 +27,7 @@ use szg_block::Sub;
 use szg_io::Input;
 use szg_values::{Kind, Material};
 
-/// A table whose front passes every check. Its blocks may contain anything: they are verified when they are
-/// fetched.
+/// A table whose front passes every check. Its blocks may contain anything: they are verified when they are fetched.
 #[derive(Drop)]
 pub struct FrontTable {
     pub(crate) index: TableIndex,

@@ -50,8 +50,7 @@ pub(crate) fn read_maps<R: Input>(
     }
 }
 
-/// Reads the map of a part if bit 1 of its flags is set. With bit 4 (flag 16) its lists are wide and begin at an even
-/// offset.
+/// Reads the map of a part if bit 1 of its flags is set. With bit 4 (flag 16) its lists are wide and begin at an even offset.
 fn read_map<R: Input>(
     alloc: Global,
     begun: &Begun,

@@ -29,8 +29,7 @@ pub(crate) fn pawns_as(material: &Material, byte: u8) -> bool
     has_bit(1, byte) == material.has_pawns()
 }
 
-/// Returns whether bit 0 of byte 4 of a WDL file is set exactly if the material is not symmetric. True for a DTZ
-/// file.
+/// Returns whether bit 0 of byte 4 of a WDL file is set exactly if the material is not symmetric. True for a DTZ file.
 pub(crate) fn splits_as(material: &Material, kind: Kind, byte: u8) -> bool
     ensures { result ≡ split_agrees material.now kind byte }
 {

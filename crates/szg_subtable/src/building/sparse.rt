@@ -1,5 +1,4 @@
-//! The sparse index: for each span that has a value, the block that contains the middle of the span, and the offset
-//! in it.
+//! The sparse index: for each span that has a value, the block that contains the middle of the span, and the offset in it.
 ghost use Rattle.std.specs.Prelude.{◌≡◌, ◌+◌, ◌<◌, ◌≤◌, ◌^◌, length, map, IfOk};
 ghost use Rattle.szg_block.specs.Block.{start};
 ghost use Rattle.szg_block.specs.Indexed.{entry_of};

@@ -107,10 +107,9 @@ pub(crate) fn count_pairs_in(entries: &[[u8; 3]]) -> usize
     entries.iter().filter(|entry| !is_leaf(**entry)).count()
 }
 
-/// Tests a proposal, and returns it with the number of values of each symbol counted anew. None if there are too many
-/// entries, if the number of leaves is not the number of different values, if a symbol of the text is not in the
-/// dictionary, if a pair occurs neither in the text nor in another pair, if the dictionary is not accepted, or if the
-/// text does not expand to `values`.
+/// Tests a proposal, and returns it with the number of values of each symbol counted anew. None if there are too many entries, if
+/// the number of leaves is not the number of different values, if a symbol of the text is not in the dictionary, if a pair occurs
+/// neither in the text nor in another pair, if the dictionary is not accepted, or if the text does not expand to `values`.
 pub(crate) fn accept(
     alloc: Global,
     values: &[u16],

@@ -15,9 +15,8 @@ use std::collections::{BinaryHeap, HashMap};
 /// No symbol: there is none on this side.
 const FREE: u16 = u16::MAX;
 
-/// A pair that may be made, and its offsets; at some of them the pair may be gone, since its symbols were replaced. The
-/// greatest candidate has the greatest count; of equal counts it has the least left symbol, and of these the least right
-/// symbol.
+/// A pair that may be made, and its offsets; at some of them the pair may be gone, since its symbols were replaced. The greatest
+/// candidate has the greatest count; of equal counts it has the least left symbol, and of these the least right symbol.
 #[derive(Clone, Copy, PartialEq, Eq, PartialOrd, Ord)]
 pub(crate) struct Candidate {
     /// The pair's count when it was last looked up. Since then it can only have fallen.
@@ -42,14 +41,12 @@ struct Joined {
     less_right: u32,
 }
 
-/// Replaces a pair by the symbol `new` at each offset of `list` where it still is. The offsets where it was replaced
-/// become the first ones of the list, and `all_sides` begins with the symbols left and right of the new symbols (`FREE`
-/// if there is none).
+/// Replaces a pair by the symbol `new` at each offset of `list` where it still is. The offsets where it was replaced become the
+/// first ones of the list, and `all_sides` begins with the symbols left and right of the new symbols (`FREE` if there is none).
 ///
-/// A run of n equal symbols has n / 2 pairs, rounded down. So the count of (left, left) falls by one if the run of left
-/// symbols that ends with the replaced one has an even length. The count of (right, right) falls by one if the run of
-/// right symbols that begins with the replaced one has an even length. Where the pair's symbols are equal, neither is
-/// counted.
+/// A run of n equal symbols has n / 2 pairs, rounded down. So the count of (left, left) falls by one if the run of left symbols
+/// that ends with the replaced one has an even length. The count of (right, right) falls by one if the run of right symbols that
+/// begins with the replaced one has an even length. Where the pair's symbols are equal, neither is counted.
 fn join_all(
     list: &mut [u32],
     all_sides: &mut [Pair],
@@ -107,8 +104,7 @@ pub(crate) struct Occurrences {
     /// The symbols left and right of the occurrences of the pair that is being replaced.
     sides: Vec<Pair>,
     queue: BinaryHeap<Candidate>,
-    /// For each symbol, how often it is just before and just after the new symbol, and where the offsets of these
-    /// pairs go.
+    /// For each symbol, how often it is just before and just after the new symbol, and where the offsets of these pairs go.
     before: Neighbours,
     following: Neighbours,
     /// A pair that occurs less often than this has no list.
@@ -267,8 +263,7 @@ impl Occurrences {
         self.add(text, new, count, count)
     }
 
-    /// Lists the offsets of the pairs that contain the new symbol. This symbol was made at the offsets `begin..end` of
-    /// the lists.
+    /// Lists the offsets of the pairs that contain the new symbol. This symbol was made at the offsets `begin..end` of the lists.
     fn fill_neighbours(&mut self, text: &Cells, begin: usize, end: usize)
         requires { end ≤ length self.old.lists.items }
     {

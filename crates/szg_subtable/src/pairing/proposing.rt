@@ -1,11 +1,10 @@
 //! Proposes pairs.
 //!
-//! While the most frequent pair makes up much of the text, it is replaced in one pass over the whole text, and all
-//! pairs are counted anew. Otherwise the offsets of the frequent pairs are listed, and the time of a round is
-//! proportional to what it replaces. All pairs are counted and listed anew when half of the text's symbols are gone,
-//! unless there are more pairs to count than symbols left. They are also counted and listed anew when no listed pair is
-//! left. The bounds for the pairs that get lists then double, so this happens a bounded number of times. The whole
-//! takes time linear in the length of the text.
+//! While the most frequent pair makes up much of the text, it is replaced in one pass over the whole text, and all pairs are
+//! counted anew. Otherwise the offsets of the frequent pairs are listed, and the time of a round is proportional to what it
+//! replaces. All pairs are counted and listed anew when half of the text's symbols are gone, unless there are more pairs to count
+//! than symbols left. They are also counted and listed anew when no listed pair is left. The bounds for the pairs that get lists
+//! then double, so this happens a bounded number of times. The whole takes time linear in the length of the text.
 use crate::pairing::cells::{Cells, length_in};
 use crate::pairing::leaves::{MAX_SYMBOLS, Paired, entry};
 use crate::pairing::occurrences::Occurrences;

@@ -1,5 +1,4 @@
-//! Makes pairs: the proposed ones if they pass the tests, otherwise one pair a round, with all pairs counted again in
-//! each round.
+//! Makes pairs: the proposed ones if they pass the tests, otherwise one pair a round, with all pairs counted again in each round.
 ghost use Rattle.std.specs.Prelude.{ℕ, ◌≡◌, ◌+◌, ◌<◌, ◌≤◌, true, List, length, slice_index, IfOk, IfSome, IfNone, OnOk};
 ghost use Rattle.std.specs.List.{AllByRecursion};
 ghost use Rattle.szg_subtable.specs.Building.{AreLens, IsCandidate, IsPairing, IsRound};

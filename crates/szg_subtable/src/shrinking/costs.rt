@@ -1,7 +1,6 @@
 //! Estimates, in bits and from symbol counts, what a symbol costs in a text and what a pair saves.
 //!
-//! Only the safety of this code is proved, not its estimates: they only decide which pairs are kept and how values are
-//! spelled.
+//! Only the safety of this code is proved, not its estimates: they only decide which pairs are kept and how values are spelled.
 use crate::pairing::numbering::at;
 use szg_pairs::entry::{left, right};
 

@@ -106,8 +106,7 @@ impl Tree {
         Ok(new)
     }
 
-    /// Adds the path of a symbol's expansion. The symbol ends there if it costs less than the one that ended there
-    /// before.
+    /// Adds the path of a symbol's expansion. The symbol ends there if it costs less than the one that ended there before.
     fn insert(
         &mut self,
         alloc: Global,
@@ -257,8 +256,7 @@ impl SpellingWalk {
     }
 }
 
-/// Chooses the best symbol at each index of the leaves, from the last to the first. None if more than `limit` nodes are
-/// visited.
+/// Chooses the best symbol at each index of the leaves, from the last to the first. None if more than `limit` nodes are visited.
 fn choose(
     alloc: Global,
     tree: &Tree,
@@ -290,9 +288,8 @@ fn choose(
     }))
 }
 
-/// Spells leaves with the least total cost, where symbol s costs `costs[s]`. First the best symbol is chosen at each
-/// index, from the last to the first; then the symbols of the text are collected. None if more than `limit` nodes are
-/// visited.
+/// Spells leaves with the least total cost, where symbol s costs `costs[s]`. First the best symbol is chosen at each index, from
+/// the last to the first; then the symbols of the text are collected. None if more than `limit` nodes are visited.
 pub(crate) fn spell(
     alloc: Global,
     leaves: &[u16],

@@ -4,6 +4,8 @@ use Rattle.szg_code.proofs.two_words.two_words_by_byte.Given as goal
 
 abbrev pub invariant-loop-byte : goal.invariant-loop-byte
 invariant-loop-byte l = record {
-  placed : length l.two_words ≡ 256;
-  valid : HasTwoWords l.code l.two_words;
+  bits : length l.bits ≡ 256;
+  first : length l.first ≡ 256;
+  second : length l.second ≡ 256;
+  valid : HasTwoWords l.code l.bits l.first l.second;
 }
