@@ -155,8 +155,9 @@ fn json_parts(text: &[u8]) -> Option<(&[u8], Option<FileState>)> {
 
 /// Returns the byte that two hexadecimal digits at the beginning of a text are.
 fn hex_byte(text: &[u8]) -> Option<u8> {
-    let digits = std::str::from_utf8(text.get(..2)?).ok()?;
-    u8::from_str_radix(digits, 16).ok()
+    let mut byte = [0];
+    hex::decode_to_slice(text.get(..2)?, &mut byte).ok()?;
+    Some(byte[0])
 }
 
 /// Returns a text without its escapes: `mark` and two hexadecimal digits, or a backslash before another byte.
