@@ -3,14 +3,12 @@
 ghost use Rattle.std.specs.Prelude.{ℕ, List, ◌≡◌, ◌<◌, ◌≤◌, ◌+◌, ◌-◌, ◌↔◌, ◌^◌, ◌++◌, IsTrue, IfNone, IfSome, length, min, take, slice_get, Some};
 ghost use Rattle.szg_code.specs.Acceptance.{IsCode};
 ghost use Rattle.szg_code.specs.Bits.{bits};
-ghost use Rattle.szg_code.specs.Least.{HasBytesAbove};
+ghost use Rattle.szg_code.specs.Least.{HasAllSymbols, HasBytesAbove};
 ghost use Rattle.szg_pairs.specs.Expansion.{expansion_of};
 ghost use Rattle.szg_block.specs.Reached.{IsAhead, IsReached};
 ghost use Rattle.szg_block.specs.Spelled.{values_spelled, word_at, pairs_above};
 
-use szg_code::{
-    Bits, Code, EndlessBits, next_byte, next_endless, next_two, next_two_if, next_word_if,
-};
+use szg_code::{Bits, Code, EndlessBits, next, next_byte, next_endless, next_two, next_two_if};
 use szg_pairs::{Descent, Dict};
 
 /// A word that contains a value.
@@ -124,9 +122,9 @@ fn reach_in_two<'a>(
 
 /// Decodes words up to the one that contains the value at `index`. None if the bits left spell too few values. Whether the last
 /// word is within the bytes is asked once, after it. If `BYTES`, words of eight bits are passed by the code's `bytes_above`; if
-/// `TWO`, two words of a byte at a step.
+/// `TWO`, two words of a byte at a step; if `ALL`, each word of the code has a symbol.
 #[inline(always)]
-fn reach_by<'a, const TWO: bool, const TABLE: bool, const BYTES: bool>(
+fn reach_by<'a, const TWO: bool, const ALL: bool, const BYTES: bool>(
     code: &Code,
     above: u64,
     dict: &Dict,
@@ -136,9 +134,11 @@ fn reach_by<'a, const TWO: bool, const TABLE: bool, const BYTES: bool>(
     requires accepted { IsCode code.now }
     requires above { HasBytesAbove code.now above }
     requires symbols { code.now.symbols ≡ length dict.now }
+    requires all { IsTrue ALL → HasAllSymbols code.now }
     ensures found { IfSome result (IsReached code.now dict.now (values_spelled code.now dict.now left.entry.left) index) }
     ensures none { IfNone result (length (values_spelled code.now dict.now left.entry.left) ≤ index) }
 {
+    let lengths = dict.lengths();
     let mut left = left.endless();
     let mut ahead = index;
     'words: loop {
@@ -148,8 +148,8 @@ fn reach_by<'a, const TWO: bool, const TABLE: bool, const BYTES: bool>(
                 return Some(reached);
             }
         }
-        let symbol = next_endless::<TABLE>(code, &mut left)?;
-        let count = u64::from(dict.len(symbol));
+        let symbol = next_endless::<ALL>(code, &mut left)?;
+        let count = u64::from(lengths[symbol as usize]);
         if ahead < count {
             let left = left.within()?;
             return Some(Reached {
@@ -173,9 +173,9 @@ fn reach_by_table<'a>(code: &Code, dict: &Dict, left: Bits<'a>, index: u64) -> O
 {
     let above = code.bytes_above();
     if code.has_two_words() {
-        reach_by::<true, true, false>(code, above, dict, left, index)
+        reach_by::<true, false, false>(code, above, dict, left, index)
     } else {
-        reach_by::<false, true, false>(code, above, dict, left, index)
+        reach_by::<false, false, false>(code, above, dict, left, index)
     }
 }
 
@@ -189,9 +189,9 @@ fn reach<'a>(code: &Code, dict: &Dict, left: Bits<'a>, index: u64) -> Option<Rea
 {
     let above = code.bytes_above();
     if above < u64::MAX {
-        reach_by::<false, false, true>(code, above, dict, left, index)
+        reach_by::<false, true, true>(code, above, dict, left, index)
     } else if code.is_read_word_by_word() {
-        reach_by::<false, false, false>(code, above, dict, left, index)
+        reach_by::<false, true, false>(code, above, dict, left, index)
     } else {
         reach_by_table(code, dict, left, index)
     }
@@ -199,7 +199,7 @@ fn reach<'a>(code: &Code, dict: &Dict, left: Bits<'a>, index: u64) -> Option<Rea
 
 /// As `find`, by `reach_by`.
 #[inline(never)]
-fn find_by<const TWO: bool, const TABLE: bool, const BYTES: bool, const VALUE: bool>(
+fn find_by<const TWO: bool, const ALL: bool, const BYTES: bool, const VALUE: bool>(
     code: &Code,
     above: u64,
     dict: &Dict,
@@ -209,11 +209,12 @@ fn find_by<const TWO: bool, const TABLE: bool, const BYTES: bool, const VALUE: b
     requires accepted { IsCode code.now }
     requires above { HasBytesAbove code.now above }
     requires symbols { code.now.symbols ≡ length dict.now }
+    requires all { IsTrue ALL → HasAllSymbols code.now }
     ensures value { IfSome result (λ value. IsTrue VALUE → slice_get (values_spelled code.now dict.now left.entry.left) index ≡ Some value) }
     ensures some { IfSome result (λ _. index < length (values_spelled code.now dict.now left.entry.left)) }
     ensures none { IfNone result (length (values_spelled code.now dict.now left.entry.left) ≤ index) }
 {
-    let reached = reach_by::<TWO, TABLE, BYTES>(code, above, dict, left, index)?;
+    let reached = reach_by::<TWO, ALL, BYTES>(code, above, dict, left, index)?;
     if !VALUE {
         return Some(0);
     }
@@ -237,13 +238,13 @@ pub(crate) fn find<const VALUE: bool>(
 {
     let above = code.bytes_above();
     if above < u64::MAX {
-        find_by::<false, false, true, VALUE>(code, above, dict, left, index)
+        find_by::<false, true, true, VALUE>(code, above, dict, left, index)
     } else if code.is_read_word_by_word() {
-        find_by::<false, false, false, VALUE>(code, above, dict, left, index)
-    } else if code.has_two_words() {
-        find_by::<true, true, false, VALUE>(code, above, dict, left, index)
-    } else {
         find_by::<false, true, false, VALUE>(code, above, dict, left, index)
+    } else if code.has_two_words() {
+        find_by::<true, false, false, VALUE>(code, above, dict, left, index)
+    } else {
+        find_by::<false, false, false, VALUE>(code, above, dict, left, index)
     }
 }
 
@@ -297,7 +298,7 @@ pub(crate) fn find_in_block(code: &Code, dict: &Dict, block: &[u8], index: u64) 
     let mut words = Bits::new(block);
     let mut ahead = index;
     let mut before = 0;
-    while let Some(symbol) = next_word_if::<true>(code, &mut words) {
+    while let Some(symbol) = next(code, &mut words) {
         let count = dict.len(symbol);
         if ahead < u64::from(count) {
             return (dict.descend(symbol, ahead as u16), before + 1);
@@ -366,7 +367,7 @@ pub fn write_values(code: &Code, dict: &Dict, block: &[u8], values: &mut [u16])
                 continue 'words;
             }
         }
-        let Some(symbol) = next_word_if::<true>(code, &mut words) else {
+        let Some(symbol) = next(code, &mut words) else {
             unreachable!()
         };
         at = write_word(dict, symbol, values, at);

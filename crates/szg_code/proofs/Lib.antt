@@ -1,5 +1,6 @@
 pub mod Numbers
 pub mod Words
+pub mod AllSymbols
 pub mod Reading
 pub mod Membership
 pub mod Spelled

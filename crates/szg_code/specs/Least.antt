@@ -1,8 +1,8 @@
 -- How a reader finds the word that begins the bits: the least length at which the number of the leading bits is at
 -- least the base.
-use Rattle.std.specs.Prelude.{ℕ, Bool, ◌≡◌, ◌+◌, ◌-◌, ◌*◌, ◌/◌, ◌%◌, ◌^◌, ◌<◌, ◌≤◌, List, length, take, slice_index}
+use Rattle.std.specs.Prelude.{ℕ, Bool, ◌≡◌, ◌+◌, ◌-◌, ◌*◌, ◌%◌, ◌^◌, ◌<◌, ◌≤◌, List, length, take, slice_index}
 use Rattle.szg_code.specs.Bits.{number}
-use Rattle.szg_code.specs.Canonical.{CanonicalCode, base, lowest_of, symbol_at}
+use Rattle.szg_code.specs.Canonical.{CanonicalCode, base, lowest_of, symbol_at, top}
 
 -- l is the least length at which the number of the first l bits is at least the base of l
 pub record IsLeastLength (code : CanonicalCode) (bits : List Bool) (l : ℕ) : Type 0 where
@@ -32,10 +32,14 @@ HasBases code bases = (j : ℕ) → j < length code.lowest → slice_index bases
 abbrev pub HasShiftedBases : CanonicalCode → List ℕ → Type 0
 HasShiftedBases code bases = (l : ℕ) → code.min_length ≤ l → l ≤ code.max_length → slice_index bases l ≡ shifted_base code 64 l
 
--- at each 64-bit window above the bound eight bits is the least length, its base is reached, and the symbol exists
+-- the numbers below the end of each length have symbols: none is left without one
+abbrev pub HasAllSymbols : CanonicalCode → Type 0
+HasAllSymbols code = (l v : ℕ) → code.min_length ≤ l → l ≤ code.max_length → v < top code l → symbol_at code l v < code.symbols
+
+-- at each 64-bit window above the bound eight bits is the least length, its base is reached, and no word is without a symbol
 abbrev pub HasBytesAbove : CanonicalCode → ℕ → Type 0
 HasBytesAbove code bound = (window : ℕ) → bound < window → window < 2 ^ 64 →
-    (code.min_length ≡ 8) × (shifted_base code 64 8 ≤ window) × (symbol_at code 8 (window / 2 ^ 56) < code.symbols)
+    (code.min_length ≡ 8) × (shifted_base code 64 8 ≤ window) × HasAllSymbols code
 
 -- the symbol that the number 0 of a length would have, modulo 2^64
 unfoldable pub zero_symbol : CanonicalCode → ℕ → ℕ

@@ -4,7 +4,7 @@ ghost use Rattle.szg_code.specs.Bits.{bits_of_number};
 ghost use Rattle.szg_code.specs.Canonical.{IsWord, base, top, symbol_at};
 ghost use Rattle.szg_code.specs.Spelling.{HasNoWord};
 ghost use Rattle.szg_code.specs.Acceptance.{IsCode, IsCodeFault};
-ghost use Rattle.szg_code.specs.Least.{HasBytesAbove, shifted_base};
+ghost use Rattle.szg_code.specs.Least.{HasAllSymbols, HasBytesAbove, shifted_base};
 ghost use Rattle.szg_code.specs.TwoWords.{ContainsTwoWords};
 
 use crate::CodeFault;
@@ -222,10 +222,10 @@ impl Code {
     /// Returns the least length whose base, shifted to the top of 64 bits, is at most the window. The shifted bases do not
     /// increase with the length, and neighbours may be equal; the first one counts.
     ///
-    /// If `TABLE`, the search starts where the table of first bytes says. Otherwise it starts at one of the two least
-    /// lengths, by a comparison that isn't a branch: what comes next waits for no table and for no prediction.
+    /// If `COMPARE`, the search starts at one of the two least lengths, by a comparison that isn't a branch: what comes next waits
+    /// for no table and for no prediction. Otherwise it starts where the table of first bytes says.
     #[inline(always)]
-    pub(crate) fn reached_length<const TABLE: bool>(&self, window: u64) -> usize
+    pub(crate) fn reached_length<const COMPARE: bool>(&self, window: u64) -> usize
         ensures accepted { IsCode self.now }
         ensures long { self.now.min_length ≤ result }
         ensures short { result ≤ self.now.max_length }
@@ -233,19 +233,30 @@ impl Code {
         ensures before { (k : ℕ) → self.now.min_length ≤ k → k < result → window < shifted_base self.now 64 k }
     {
         let least = usize::from(self.header.min);
-        let start = if TABLE {
-            usize::from(self.starts[(window >> 56) as usize])
-        } else {
+        let start = if COMPARE {
             least + usize::from(window < self.bases[least])
+        } else {
+            usize::from(self.starts[(window >> 56) as usize])
         };
         self.header.reached_length_from(&self.bases, start, window)
     }
 
     /// Returns whether words are decoded one by one, and their lengths found by comparing: at most one of 64 windows begins
-    /// with a word that is longer than the two least lengths, and the first two words of each byte are not stored.
-    pub fn is_read_word_by_word(&self) -> bool {
+    /// with a word that is longer than the two least lengths, each word has a symbol, and the first two words of each byte are
+    /// not stored.
+    pub fn is_read_word_by_word(&self) -> bool
+        ensures symbols { IsTrue result → HasAllSymbols self.now }
+    {
         let second = usize::from(self.header.min) + 1;
-        self.bases[second] <= LEAST_WINDOWS && self.two_words.is_none()
+        self.bases[second] <= LEAST_WINDOWS && self.two_words.is_none() && self.has_all_symbols()
+    }
+
+    /// Returns whether each word has a symbol: whether that of the greatest number of the least length, the greatest symbol, exists.
+    fn has_all_symbols(&self) -> bool
+        ensures { IsTrue result → HasAllSymbols self.now }
+    {
+        let number = self.symbol_number(u64::MAX, usize::from(self.header.min));
+        number < u64::from(self.header.symbols)
     }
 
     /// Returns the number that the window's first `length` bits represent as a symbol.
@@ -265,41 +276,30 @@ impl Code {
     pub fn bytes_above(&self) -> u64
         ensures { HasBytesAbove self.now result }
     {
-        if self.header.min == 8 && self.bases[8] <= LEAST_WINDOWS {
-            match self.symbol_of(self.symbol_number(u64::MAX, 8)) {
-                Some(_) => self.bases[8],
-                None => u64::MAX,
-            }
+        if self.header.min == 8 && self.bases[8] <= LEAST_WINDOWS && self.has_all_symbols() {
+            self.bases[8]
         } else {
             u64::MAX
         }
     }
 
-    /// Returns the symbol of the word of eight bits that begins a window above `above`, the code's `bytes_above`. It is compared
-    /// with no number of symbols.
+    /// Returns the symbol of the word of `length` bits that begins a window. None if it has none. If `ALL`, each word of the code has
+    /// one, and it is compared with no number of symbols.
     #[inline(always)]
-    pub(crate) fn byte_symbol(&self, window: u64, above: u64) -> u64
-        requires bound { HasBytesAbove self.now above }
-        requires above { above < window }
-        ensures accepted { IsCode self.now }
-        ensures least { self.now.min_length ≡ 8 }
-        ensures reaches { shifted_base self.now 64 8 ≤ window }
-        ensures symbol { result ≡ symbol_at self.now 8 (window / 2 ^ 56) }
-        ensures there { result < self.now.symbols }
+    pub(crate) fn first_symbol<const ALL: bool>(&self, window: u64, length: usize) -> Option<u64>
+        requires all { IsTrue ALL → HasAllSymbols self.now }
+        requires long { self.now.min_length ≤ length }
+        requires short { length ≤ self.now.max_length }
+        requires reaches { shifted_base self.now 64 length ≤ window }
+        requires before { (k : ℕ) → self.now.min_length ≤ k → k < length → window < shifted_base self.now 64 k }
+        ensures found { IfSome result (λ s. (s ≡ symbol_at self.now length (window / 2 ^ (64 - length))) × (s < self.now.symbols)) }
+        ensures fits { IfSome result (λ s. s < 2 ^ 16) }
+        ensures none { IfNone result (self.now.symbols ≤ symbol_at self.now length (window / 2 ^ (64 - length))) }
     {
-        // A fact that the proof uses: the code is accepted.
-        let _ = self.symbols();
-        self.symbol_number(window, 8)
-    }
-
-    /// Returns the symbol with a number. None if the number is not below the number of symbols.
-    #[inline(always)]
-    pub(crate) fn symbol_of(&self, number: u64) -> Option<u16>
-        ensures found { IfSome result (λ s. (s ≡ number) × (s < self.now.symbols)) }
-        ensures none { IfNone result (self.now.symbols ≤ number) }
-    {
-        if number < u64::from(self.symbols()) {
-            Some(number as u16)
+        let symbol = self.symbol_number(window, length);
+        let symbols = self.symbols();
+        if ALL || symbol < u64::from(symbols) {
+            Some(symbol)
         } else {
             None
         }

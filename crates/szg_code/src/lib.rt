@@ -15,9 +15,7 @@ mod writer;
 
 pub use canonical::{Code, word};
 pub use code_word::Word;
-pub use reader::{
-    Bits, EndlessBits, next, next_byte, next_endless, next_two, next_two_if, next_word_if,
-};
+pub use reader::{Bits, EndlessBits, next, next_byte, next_endless, next_two, next_two_if};
 pub use writer::{BitBuf, put};
 
 /// Why a code is refused: the first fault in this order.

@@ -1,7 +1,7 @@
 //! A reader of words, by windows of 64 bits as in de Man's probing code.
-ghost use Rattle.std.specs.Prelude.{◌≡◌, ◌*◌, ◌^◌, ◌<◌, ◌≤◌, ◌%◌, ◌+◌, [], ◌∷◌, IfNone, IfSome, length, ltb, take, drop};
+ghost use Rattle.std.specs.Prelude.{◌≡◌, ◌*◌, ◌^◌, ◌<◌, ◌≤◌, ◌%◌, ◌+◌, [], ◌∷◌, IfNone, IfSome, IsTrue, length, ltb, take, drop};
 ghost use Rattle.szg_code.specs.Bits.{bits, number};
-ghost use Rattle.szg_code.specs.Least.{HasBytesAbove};
+ghost use Rattle.szg_code.specs.Least.{HasAllSymbols, HasBytesAbove};
 ghost use Rattle.szg_code.specs.Spelling.{BeginsWithNoWord, BeginsWithOneAtMost};
 ghost use Rattle.szg_code.specs.Cursor.{TakesWord, TakesWords};
 ghost use Rattle.szg_code.specs.Window.{IsWordReader, padded};
@@ -210,24 +210,25 @@ fn window_of(bytes: &[u8], offset: u64, window: Window, count: u64) -> Option<Wi
 }
 
 /// Decodes the word at the reader's offset, moves the reader past it, and returns its symbol. None if the remaining bits do not
-/// begin with a word. If the bytes end within the word, zeros complete it, and the reader has moved past the end. If `TABLE`, a
-/// word's length is found by the code's table of first bytes, else by comparing.
+/// begin with a word. If the bytes end within the word, zeros complete it, and the reader has moved past the end. If `ALL`, each word
+/// of the code has a symbol, and a word's length is found by comparing, else by the code's table of first bytes.
 #[inline(always)]
-pub fn next_endless<const TABLE: bool>(code: &Code, words: &mut EndlessBits) -> Option<u16>
+pub fn next_endless<const ALL: bool>(code: &Code, words: &mut EndlessBits) -> Option<u16>
+    requires { IsTrue ALL → HasAllSymbols code.now }
     ensures there { IfSome result (λ s. s < code.now.symbols) }
     ensures found { IfSome result (λ s. words.new.past ≡ 0 → (words.old.past ≡ 0) × TakesWord code.now words.old.cursor words.new.cursor s) }
     ensures past { IfSome result (λ _. 0 < words.new.past → BeginsWithNoWord code.now words.old.cursor.left) }
     ensures none { IfNone result (BeginsWithNoWord code.now words.old.cursor.left) }
 {
     let window = window_of(words.bytes, words.offset, words.window, code.longest())?;
-    let length = code.reached_length::<TABLE>(window.bits);
-    let symbol = code.symbol_of(code.symbol_number(window.bits, length))?;
+    let length = code.reached_length::<ALL>(window.bits);
+    let symbol = code.first_symbol::<ALL>(window.bits, length)?;
     words.offset += length as u64;
     words.window = Window {
         bits: window.bits << length,
         held: window.held,
     };
-    Some(symbol)
+    Some(symbol as u16)
 }
 
 /// Decodes the word of eight bits at the reader's offset, if its window holds it and is above `above`, the code's
@@ -245,25 +246,14 @@ pub fn next_byte(code: &Code, above: u64, words: &mut EndlessBits) -> Option<u64
     if window.held < BYTE || window.bits <= above {
         return None;
     }
+    // A fact that the proof uses: the code is accepted.
+    let _ = code.symbols();
+    let symbol = code.first_symbol::<true>(window.bits, 8)?;
     words.offset += BYTE;
     words.window = Window {
         bits: window.bits << BYTE,
         held: window.held - BYTE,
     };
-    Some(code.byte_symbol(window.bits, above))
-}
-
-/// Decodes the word at the reader's offset, moves the reader past it, and returns its symbol. None if the remaining bits do not
-/// begin with a word, or if the word would extend past the bytes; then the reader does not move. If `TABLE`, a word's length is
-/// found by the code's table of first bytes, else by comparing.
-#[inline(always)]
-pub fn next_word_if<const TABLE: bool>(code: &Code, words: &mut Bits) -> Option<u16>
-    ensures found { IfSome result (λ s. TakesWord code.now words.old words.new s) }
-    ensures none { IfNone result (BeginsWithNoWord code.now words.old.left × (words.new ≡ words.old)) }
-{
-    let mut moved = words.reader.copied();
-    let symbol = next_endless::<TABLE>(code, &mut moved)?;
-    *words = moved.within()?;
     Some(symbol)
 }
 
@@ -274,7 +264,10 @@ pub fn next(code: &Code, bits: &mut Bits) -> Option<u16>
     ensures found { IfSome result (λ s. TakesWord code.now bits.old bits.new s) }
     ensures none { IfNone result (BeginsWithNoWord code.now bits.old.left × (bits.new ≡ bits.old)) }
 {
-    next_word_if::<true>(code, bits)
+    let mut moved = bits.reader.copied();
+    let symbol = next_endless::<false>(code, &mut moved)?;
+    *bits = moved.within()?;
+    Some(symbol)
 }
 
 /// Decodes the two words of the byte at the reader's offset, if its window holds the byte and the code stores its words; moves the

@@ -3,7 +3,7 @@ ghost use Rattle.std.specs.Prelude.{◌≤◌, IfSome};
 ghost use Rattle.szg_code.specs.TwoWords.{ContainsTwoWords, HasTwoWords};
 
 use crate::canonical::Code;
-use crate::reader::{Bits, next_word_if};
+use crate::reader::{Bits, next};
 
 /// The symbols of the first two words of a byte, and the number of bits of both together. 0 bits if the byte does not
 /// contain two whole words.
@@ -27,10 +27,10 @@ fn two_words_of(code: &Code, byte: u8) -> TwoWords
 {
     let bytes = [byte];
     let mut words = Bits::new(&bytes);
-    let Some(first) = next_word_if::<true>(code, &mut words) else {
+    let Some(first) = next(code, &mut words) else {
         return NO_WORDS;
     };
-    let Some(second) = next_word_if::<true>(code, &mut words) else {
+    let Some(second) = next(code, &mut words) else {
         return NO_WORDS;
     };
     TwoWords {

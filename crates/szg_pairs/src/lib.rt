@@ -151,6 +151,8 @@ impl Dict {
     pub fn lengths(&self) -> &[u16]
         ensures number { length result.now ≡ length self.now }
         ensures each { (s : ℕ) → s < length self.now → slice_index result.now s ≡ length (expansion_of self.now s) }
+        ensures at_least { (s : ℕ) → s < length self.now → 1 ≤ slice_index result.now s }
+        ensures at_most { (s : ℕ) → s < length self.now → slice_index result.now s ≤ 256 }
     {
         &self.lengths
     }

@@ -1,4 +1,4 @@
-use Rattle.std.proofs.Common.{ℕ, List, [], length, ap, ◌∙◌, arith}
+use Rattle.std.proofs.Common.{ℕ, ◌<◌, List, [], length, ap, ◌∙◌, arith}
 use Rattle.szg_code.specs.Cursor.{Cursor}
 use Rattle.szg_pairs.specs.Expansion.{expansion_of}
 use Rattle.szg_block.specs.Spelled.{values_spelled}
@@ -13,7 +13,7 @@ words-preserved g c =
     let all : List ℕ = values_spelled code entries c.args.left.left in
     let is = c.skip-ahead.ensures.ahead all c.args.index c.words.invariant in
     passed code entries all c.args.index _ _ is c.next_endless.new.words (expansion_of entries c.in_ok-symbol.symbol) c.from-count.result
-    (c.from-count.ensures ∙ c.len.ensures.number) (omega (arith, c.if-ahead-count.false))
+    (c.from-count.ensures ∙ c.lengths-lengths.ensures.each c.in_ok-symbol.symbol (omega (arith, c.in_ok-symbol.ensures.there, c.requires.symbols))) (omega (arith, c.if-ahead-count.false))
     (λ inside. let t = c.in_ok-symbol.ensures.found inside in (t.0, values_spelled-taken code c.requires.accepted entries _ c.next_endless.new.words.cursor c.in_ok-symbol.symbol t.1))
     (λ past. few_values code entries all c.args.index _ _ is (c.in_ok-symbol.ensures.past past))
 
@@ -45,7 +45,10 @@ returns-then-ahead-count-clause-found g c =
     let e = values_spelled-taken code c.requires.accepted entries _ c.next_endless.new.words.cursor c.in_ok-symbol.symbol taken.1 in
     let n = length-values_spelled-taken code c.requires.accepted entries _ c.next_endless.new.words.cursor c.in_ok-symbol.symbol taken.1 in
     let same = ap (λ (k : Cursor). length (values_spelled code entries k.left)) within.1 in
-    let count = c.from-count.ensures ∙ c.len.ensures.number in
+    let there : c.in_ok-symbol.symbol < length entries = omega (arith, c.in_ok-symbol.ensures.there, c.requires.symbols) in
+    let each = c.lengths-lengths.ensures.each c.in_ok-symbol.symbol there in
+    let count = c.from-count.ensures ∙ each in
+    let few = c.lengths-lengths.ensures.at_most c.in_ok-symbol.symbol there in
     is_reached code entries all c.args.index _ _ is _ [] (values_spelled code entries c.next_endless.new.words.cursor.left) taken.0
-    (omega (arith, c.in_ok-symbol.ensures.there, c.requires.symbols)) (omega (arith, c.len.ensures.number, c.len.ensures.at_most)) e
+    there (omega (arith, each, few)) e
     (omega arith) (omega arith) (omega (arith, count, c.if-ahead-count.true)) (omega (arith, c.if-ahead-count.true)) (omega (arith, n, same, count, c.if-ahead-count.true))

@@ -9,7 +9,7 @@ use Rattle.szg_block.proofs.words.write_values.Goals as goal
 pub unreachable-requires : goal.unreachable-requires
 unreachable-requires c =
     let same : c.if-two.words ≡ c.words.words = elim c.if-two.branch [ then-two+in_default w ↦ w.words-is ∙ w.in_default.ensures.none | else-two w ↦ w.words-is ] in
-    let e = values_spelled-none c.args.code.now c.args.dict.now c.if-two.words.left c.in_default-next_word_if.ensures.none.0 in
+    let e = values_spelled-none c.args.code.now c.args.dict.now c.if-two.words.left c.in_default-next.ensures.none.0 in
     let n = ap (λ (k : Cursor). length (values_spelled c.args.code.now c.args.dict.now k.left)) same in
     omega (arith, ap (λ u. length u) e, n, c.words.invariant.within, c.words-test.true)
 
@@ -18,11 +18,11 @@ words-preserved c =
     let code = c.args.code.now in
     let entries : List (List ℕ) = c.args.dict.now in
     let values : List ℕ = c.words.values in
-    let xs : List ℕ = expansion_of entries c.in-Some-next_word_if.symbol in
-    let rest : List ℕ = values_spelled code entries c.next_word_if.new.words.left in
+    let xs : List ℕ = expansion_of entries c.in-Some-next.symbol in
+    let rest : List ℕ = values_spelled code entries c.next.new.bits.left in
     let same : c.if-two.words ≡ c.words.words = elim c.if-two.branch [ then-two+in_default w ↦ w.words-is ∙ w.in_default.ensures.none | else-two w ↦ w.words-is ] in
     let e = ap (λ (k : Cursor). values_spelled code entries k.left) (sym same)
-    ∙ values_spelled-taken code c.requires.accepted entries c.if-two.words c.next_word_if.new.words c.in-Some-next_word_if.symbol c.in-Some-next_word_if.ensures.found in
+    ∙ values_spelled-taken code c.requires.accepted entries c.if-two.words c.next.new.bits c.in-Some-next.symbol c.in-Some-next.ensures.found in
     let n = ap (λ u. length u) e ∙ length-append xs rest in
     let w = c.write_word-at-in-words.ensures in
     record {

@@ -1,6 +1,5 @@
-use Rattle.std.proofs.Common.{◌≡◌, ◌+◌, ◌-◌, ◌/◌, ◌^◌, ◌≤◌, List, Bool, length, drop, refl, ap, ◌∙◌, arith}
+use Rattle.std.proofs.Common.{◌≡◌, ◌+◌, ◌≤◌, List, Bool, length, drop, refl, ap, arith}
 use Rattle.szg_code.specs.Bits.{bits}
-use Rattle.szg_code.specs.Canonical.{symbol_at}
 use Rattle.szg_code.specs.Cursor.{EndlessCursor}
 use Rattle.szg_code.proofs.ByteBits.{length-left}
 use Rattle.szg_code.proofs.FirstWords.{no_word_of_nothing}
@@ -18,9 +17,8 @@ returns-in_err-window-clause-none g c =
 pub returns-in_err-symbol-clause-none : goal.returns-in_err-symbol-clause-none
 returns-in_err-symbol-clause-none g c =
     let j = c.reached_length-length.ensures in
-    let none : c.args.code.now.symbols ≤ symbol_at c.args.code.now c.reached_length-length.result (c.in_ok-window.window.bits / 2 ^ (64 - c.reached_length-length.result)) = omega (arith, c.symbol_number.ensures, c.in_err-symbol.ensures.none) in
     rw c.from_residual-in_err-symbol.ensures (none_without c.args.code.now j.accepted c.words.inside.bytes.now c.words.inside.offset c.in_ok-window.window.bits (c.longest.result + c.in_ok-window.window.held) c.in_ok-window.ensures.valid
-    c.args.words.now c.words.view_is c.reached_length-length.result (omega (arith, j.short, c.longest.ensures.length)) j.long j.short j.reaches j.before none)
+    c.args.words.now c.words.view_is c.reached_length-length.result (omega (arith, j.short, c.longest.ensures.length)) j.long j.short j.reaches j.before c.in_err-symbol.ensures.none)
 
 pub invariant_of-words : goal.invariant_of-words
 invariant_of-words g c =
@@ -33,7 +31,7 @@ returns-clause-found g c inside =
     let symbol = c.in_ok-symbol.ensures.found in
     taken_within c.args.code.now j.accepted c.words.inside.bytes.now c.words.inside.offset c.in_ok-window.window.bits (c.longest.result + c.in_ok-window.window.held) c.in_ok-window.ensures.valid
     c.args.words.now c.words.view_is c.reached_length-length.result (omega (arith, j.short, c.longest.ensures.length)) j.long j.short j.reaches j.before
-    _ c.in_ok-symbol.symbol inside (symbol.0 ∙ c.symbol_number.ensures) symbol.1 refl refl
+    _ c.in_ok-symbol.symbol inside symbol.0 symbol.1 refl refl
 
 pub returns-clause-past : goal.returns-clause-past
 returns-clause-past g c past =

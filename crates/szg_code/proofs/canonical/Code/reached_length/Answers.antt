@@ -14,7 +14,7 @@ reached_length_from-requires g c =
     let accepted : IsCode code = c.self.invariant.0 in
     let order : code.min_length ≤ code.max_length = accepted.lengths.in_order in
     elim c.if-this-ne0.branch [
-      | then-this-ne0 w ↦
+      | else-this-ne0 w ↦
           let first : ℕ = c.args.window / 2 ^ 56 in
           let start : IsStart code first (get_or c.self.inside.starts first 0) = c.self.invariant.2 first (omega arith) in
           let is : c.if-this-ne0.start ≡ get_or c.self.inside.starts first 0 = w.start-is ∙ w.from-start.ensures in
@@ -25,7 +25,7 @@ reached_length_from-requires g c =
             short = let h = start.short_enough in omega (arith, h, is);
             before = λ k long less. let h = start.before k long (omega (arith, less, is)) in omega (arith, h);
           }
-      | else-this-ne0 w ↦
+      | then-this-ne0 w ↦
           let least : ℕ = get_or c.self.inside.bases c.from-least.result 0 in
           let min : c.from-least.result ≡ code.min_length = c.from-least.ensures in
           let at : least ≡ shifted_base code 64 code.min_length = rw min (c.self.invariant.1 code.min_length (omega arith) order) in
