@@ -2,7 +2,7 @@
 use crate::helpers::made;
 use std::alloc::Global;
 use std::process::Abort;
-use szg_code::{BitBuf, Bits, Code, CodeFault, PutFault, next_word_if, put, word};
+use szg_code::{BitBuf, Bits, Code, CodeFault, PutFault, next, put, word};
 
 fn code(rt: &(impl Abort + Alloc<A = Global>), min: u8, max: u8, lowest: &[u16], n: u16) -> Code {
     let lowest = made(rt, lowest.to_vec(rt.alloc()));
@@ -62,8 +62,8 @@ fn refused_codes(rt: HostRuntime) {
 }
 
 /// Two words at a step are read if at least 192 of 256 bytes begin with two whole words. Word by word is read another code in
-/// which 63 of 64 windows begin with a word of the two least lengths, and by bytes one in which 63 of 64 windows begin with a
-/// word of the least length, eight bits.
+/// which no word is without a symbol and 63 of 64 windows begin with a word of the two least lengths, and by bytes such a code in
+/// which 63 of 64 windows begin with a word of the least length, eight bits.
 #[test]
 fn ways_of_reading(rt: HostRuntime) {
     let codes = [
@@ -80,6 +80,10 @@ fn ways_of_reading(rt: HostRuntime) {
         (code(&rt, 8, 9, &[8, 0], 260), false, true, true),
         (code(&rt, 8, 9, &[10, 0], 261), false, true, false),
         (code(&rt, 7, 8, &[0, 0], 128), false, true, false),
+        // the last word of 5, of 8 and of 7 bits has no symbol
+        (code(&rt, 5, 5, &[0], 31), false, false, false),
+        (code(&rt, 8, 9, &[8, 0], 259), false, false, false),
+        (code(&rt, 7, 8, &[0, 0], 127), false, false, false),
     ];
     for (code, two_words, word_by_word, bytes) in codes.iter() {
         let found = (
@@ -96,30 +100,19 @@ fn ways_of_reading(rt: HostRuntime) {
 }
 
 /// The bytes begin with the words of these symbols, of `place` bits together, and then no word follows.
-fn check_symbols_by<const TABLE: bool>(
-    rt: &impl Abort,
-    code: &Code,
-    bytes: &[u8],
-    symbols: &[u16],
-    place: u64,
-) {
+fn check_symbols(rt: &impl Abort, code: &Code, bytes: &[u8], symbols: &[u16], place: u64) {
     assert!(rt; bytes.len() <= 64);
     let mut words = Bits::new(bytes);
     for symbol in symbols {
         assert!(rt;
-            next_word_if::<TABLE>(code, &mut words) == Some(*symbol),
+            next(code, &mut words) == Some(*symbol),
             "{symbol}, to {place}"
         );
     }
     assert!(rt;
-        next_word_if::<TABLE>(code, &mut words).is_none() && words.place() == place,
+        next(code, &mut words).is_none() && words.place() == place,
         "behind {place}"
     );
-}
-
-fn check_symbols(rt: &impl Abort, code: &Code, bytes: &[u8], symbols: &[u16], place: u64) {
-    check_symbols_by::<true>(rt, code, bytes, symbols, place);
-    check_symbols_by::<false>(rt, code, bytes, symbols, place);
 }
 
 #[test]
