@@ -1,9 +1,12 @@
-//! The program `szg`: runs what a command line asks for, and returns the status at the end.
+//! The commands of the program `szg` but `verify`: what they print and show on a terminal, and the status with which they end.
 #![tactic(auto)]
 
 pub mod laws;
+mod progress;
+mod results;
 mod running;
 mod statuses;
 
-pub use running::{run_given, words_given};
-pub use statuses::no_words_status;
+pub use progress::{ProgressLine, ReadLine};
+pub use running::{outcome_of, run_command};
+pub use statuses::{no_words_status, status_of};

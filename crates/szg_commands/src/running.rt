@@ -1,9 +1,10 @@
-//! A run of the program: a command line on a machine's files and on an input and an output.
-ghost use Rattle.std.specs.Prelude.{◌≡◌, IfOk, OnErr, OnOk, map, string_bytes};
+//! A run of a command that verifies nothing, on a machine's files and on an input and an output.
+ghost use Rattle.std.specs.Prelude.{◌≡◌, OnErr, OnOk};
 
+use crate::progress::{Above, ReadLine};
+use crate::results::write_results;
 use crate::statuses::{ending_status, status_of};
-use std::alloc::{AllocError, Global};
-use std::env::{self, Env};
+use std::alloc::Global;
 use std::io::{self, BufWriter, Read, Write};
 use std::process::ExitCode;
 use std::rt::Files;
@@ -13,28 +14,10 @@ use szg_archive::escaped_path;
 use szg_build::Watcher;
 use szg_files::{Disk, Lock, Monitored};
 use szg_io::{ReadAhead, Std};
-use szg_runs::{Above, ReadLine, verify_words, write_results};
-use szg_verified::Progress;
-use szg_words::{Clap, assumes_win, copies_of, meant_name, probe_of, verification_of};
-
-/// The words of the command line.
-pub fn words_given(rt: &(impl Env + AllocGlobal)) -> io::Result<Vec<String>> {
-    Ok(env::args(rt)?.collect(rt.alloc())?)
-}
-
-/// The words as texts.
-fn texts_of<'a>(alloc: Global, words: &'a [String]) -> Result<Vec<&'a str>, AllocError>
-    ensures { IfOk result (λ texts. map (λ text. text.now) texts.items ≡ map (λ word. string_bytes word) words.now) }
-{
-    let mut texts = Vec::new(alloc);
-    'words: for word in words {
-        texts.push(word.as_str())?;
-    }
-    Ok(texts)
-}
+use szg_words::{Clap, copies_of, meant_name, probe_of};
 
 /// Returns the outcome of a command that wrote its lines and says whether nothing was refused, or that failed.
-fn outcome_of(written: io::Result<bool>) -> Outcome {
+pub fn outcome_of(written: io::Result<bool>) -> Outcome {
     match written {
         Ok(true) => Outcome::Done,
         Ok(false) => Outcome::Refused,
@@ -76,42 +59,30 @@ fn print_meant(rt: &(impl Eprint + AllocGlobal), texts: &[&str]) {
     }
 }
 
-/// Runs the words of a command line on a machine's files, on an input and an output; faults, and the class for which a DTZ table
-/// is probed if the words give none, are printed on standard error.
-/// `watcher` sees a build or a verification, and `reads` shows what is read of files. `is_terminal` says whether the output is a
+/// Runs the words of a command other than `verify` on a machine's files, on an input and an output; faults are printed on
+/// standard error. `watcher` sees a build, and `reads` shows what is read of files. `is_terminal` says whether the output is a
 /// terminal.
-pub fn run_given<D: Files + Clock>(
+pub fn run_command<D: Files + Clock>(
     rt: &(impl Eprint + AllocGlobal),
     machine: &D,
-    words: &[String],
+    texts: &[&str],
     is_terminal: bool,
     input: impl Read + Drop,
     output: impl Write + Drop,
-    watcher: &mut (impl Watcher + Progress),
+    watcher: &mut impl Watcher,
     reads: &ReadLine<'_, impl Eprint, impl Clock>,
 ) -> ExitCode
 where
     D::File: Lock,
 {
-    let Ok(texts) = texts_of(rt.alloc(), words) else {
-        return status_of(rt, &Outcome::Memory);
-    };
-    if let Some(asked) = probe_of(texts.as_slice()) {
+    if let Some(asked) = probe_of(texts) {
         let written = write_results(rt.alloc(), machine, asked, is_terminal, input, output);
         return status_of(rt, &outcome_of(written));
-    }
-    match verification_of(rt.alloc(), texts.as_slice()) {
-        Ok(Some(asked)) => {
-            let verified = verify_words(rt.alloc(), machine, &asked, output, watcher);
-            return status_of(rt, &outcome_of(verified));
-        }
-        Ok(None) => {}
-        Err(_) => return status_of(rt, &Outcome::Memory),
     }
     let (ending, is_closed) = run_on_streams(
         rt.alloc(),
         machine,
-        texts.as_slice(),
+        texts,
         input,
         Above { output, reads },
         watcher,
@@ -119,13 +90,9 @@ where
     );
     reads.erase();
     if is_refused(&ending) && !is_closed {
-        print_meant(rt, texts.as_slice());
+        print_meant(rt, texts);
     }
-    let status = ending_status(rt, ending, is_closed);
-    if status == ExitCode::SUCCESS && assumes_win(words) {
-        let _ = eprintln!(rt; "this is the number of a win: for another class give --class");
-    }
-    status
+    ending_status(rt, ending, is_closed)
 }
 
 /// Runs the words on a machine's files, on an input and an output; also whether the reader of the output closed it.

@@ -8,7 +8,7 @@ use std::test::Fail;
 use szg_files::{MemoryFile, MemoryFiles};
 use szg_fixtures as fixtures;
 use szg_values::Material;
-use szg_verified::{Progress, ShardVerification, verify_folder, verify_folder_shard};
+use szg_verified::{ShardVerification, verify_folder, verify_folder_shard};
 use szg_verify::{Shard, Watcher};
 
 /// Shows nothing.
@@ -17,9 +17,7 @@ struct Unseen;
 
 impl Watcher for Unseen {
     fn see_progress(&mut self, _material: &Material, _done: u64, _to: u64, _positions: u64) {}
-}
 
-impl Progress for Unseen {
     fn end(&mut self) {}
 }
 

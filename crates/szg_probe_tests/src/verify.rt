@@ -19,6 +19,8 @@ struct Blind;
 
 impl Watcher for Blind {
     fn see_progress(&mut self, _material: &Material, _done: u64, _to: u64, _positions: u64) {}
+
+    fn end(&mut self) {}
 }
 
 fn table(rt: &(impl Abort + Alloc<A = Global>), file: Result<Fixture, AllocError>) -> Table {
@@ -34,12 +36,13 @@ fn verified(rt: &impl Abort, tables: &[Table], name: &str) -> Result<Walked, Ver
     verify_tables(tables, &materials, &mut cells, &mut Blind)
 }
 
-/// Keeps what it sees, ten times at most, and counts: whether the material is that of king and bishop against king, the numbers
-/// that were checked, the range's end and the positions.
+/// Keeps what it sees, ten times at most: whether the material is that of king and bishop against king, the numbers that were
+/// checked, the range's end and the positions. Counts it, and the walks that ended.
 #[derive(Drop)]
 struct Seen {
     progress: [(bool, u64, u64, u64); 10],
     count: usize,
+    ended: usize,
 }
 
 impl Watcher for Seen {
@@ -49,6 +52,10 @@ impl Watcher for Seen {
             self.progress[self.count] = (bishop, done, to, positions);
         }
         self.count = self.count.saturating_add(1);
+    }
+
+    fn end(&mut self) {
+        self.ended = self.ended.saturating_add(1);
     }
 }
 
@@ -80,13 +87,14 @@ fn drawn_materials_pass(rt: HostRuntime) {
     let mut seen = Seen {
         progress: [(false, 0, 0, 0); 10],
         count: 0,
+        ended: 0,
     };
     let mut cells = [Cell::default(); 1024];
     let found = verify_tables(&tables, &[knight, bishop], &mut cells, &mut seen);
     let walked = made(&rt, found);
     assert!(rt; walked.refused.is_none());
     assert_eq!(rt; walked.positions, 107_360 + 104_307);
-    assert!(rt; seen.count == 10 && seen.progress == PROGRESS);
+    assert!(rt; seen.count == 10 && seen.ended == 2 && seen.progress == PROGRESS);
 }
 
 /// White doesn't win. All men are on one diagonal, so no other position that is checked is an image of this one.

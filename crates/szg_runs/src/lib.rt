@@ -1,10 +1,7 @@
-//! Runs over folders of tables, results of positions and verifications, and what a terminal shows of a run.
+//! Runs of the program `szg`: what a command line asks for is carried out, and the status is returned.
 #![tactic(auto)]
 
-mod progress;
-mod results;
+mod running;
 mod verification;
 
-pub use progress::{Above, ProgressLine, ReadLine};
-pub use results::write_results;
-pub use verification::verify_words;
+pub use running::{run_given, words_given};

@@ -9,7 +9,7 @@ ghost use Rattle.szg_tables.specs.Stored.{stored_classes};
 ghost use Rattle.szg_verified.specs.Verified.{AreCheckedIn, AreReadFrom, AreTrue, IsAdded, IsCauseInShard, IsCaused, IsLoggedIn, is_whole, shard_count};
 
 use crate::changes::{add_needed, needed_by};
-use crate::verifying::{Cause, Progress, Unverified, verify_materials, verify_shard};
+use crate::verifying::{Cause, Unverified, verify_materials, verify_shard};
 use std::alloc::{AllocError, Global};
 use std::io::{self, Write};
 use std::rt::Files;
@@ -19,7 +19,7 @@ use szg_named::named_by;
 use szg_results::{ResultStop, read_missing};
 use szg_tables::{Missing, MissingReason};
 use szg_values::{Kind, Material, NameFault};
-use szg_verify::Shard;
+use szg_verify::{Shard, Watcher};
 
 /// What was verified.
 #[derive(Drop)]
@@ -117,7 +117,7 @@ fn material_at(folder: &str, path: &str) -> Option<Material> {
 /// chess with the fifty-move rule, whoever made the tables. For those that the log has this rests on the log.
 ///
 /// Errors: `VerifyStop`; the lines of materials that came before were written.
-pub fn verify_folder<S: FileSystem, W: Write, P: Progress>(
+pub fn verify_folder<S: FileSystem, W: Write, P: Watcher>(
     alloc: Global,
     system: &mut S,
     folder: &str,
@@ -159,7 +159,7 @@ pub fn verify_folder<S: FileSystem, W: Write, P: Progress>(
 /// say what the line of the whole material says (`shards_are_whole` of `szg_verify`).
 ///
 /// Errors: `VerifyStop`.
-pub fn verify_folder_shard<S: FileSystem, W: Write, P: Progress>(
+pub fn verify_folder_shard<S: FileSystem, W: Write, P: Watcher>(
     alloc: Global,
     system: &mut S,
     folder: &str,

@@ -12,4 +12,4 @@ mod verifying;
 
 pub use folder::{ShardVerification, Verification, VerifyStop, verify_folder, verify_folder_shard};
 pub use run::{Run, VerificationAsked, run_verification};
-pub use verifying::{Cause, Progress, Unverified};
+pub use verifying::{Cause, Unverified};

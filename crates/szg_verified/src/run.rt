@@ -8,7 +8,6 @@ use crate::folder::{
     ShardVerification, Verification, VerifyStop, materials_in, verify_folder, verify_folder_shard,
 };
 use crate::log::shard_of;
-use crate::verifying::Progress;
 use std::alloc::{AllocError, Global};
 use std::fs;
 use std::io::{self, Read, Write};
@@ -17,6 +16,7 @@ use szg_files::{Disk, FileFault};
 use szg_named::{fault_text, name_word};
 use szg_results::{ResultStop, stop_text};
 use szg_values::Material;
+use szg_verify::Watcher;
 
 /// What a verification is asked for.
 #[derive(Clone, Copy)]
@@ -60,7 +60,7 @@ impl Run {
 /// for each material and a summary, or the line of the shard, or why it was not done.
 ///
 /// Errors: the output's; an allocation was refused.
-pub fn run_verification<R: Files, W: Write, P: Progress>(
+pub fn run_verification<R: Files, W: Write, P: Watcher>(
     alloc: Global,
     files: &R,
     asked: VerificationAsked<'_>,
@@ -86,7 +86,7 @@ pub fn run_verification<R: Files, W: Write, P: Progress>(
 }
 
 /// Verifies the tables of materials.
-fn verified<R: Files, W: Write, P: Progress>(
+fn verified<R: Files, W: Write, P: Watcher>(
     alloc: Global,
     files: &R,
     asked: VerificationAsked<'_>,
@@ -106,7 +106,7 @@ fn verified<R: Files, W: Write, P: Progress>(
 }
 
 /// Checks a shard.
-fn shard_verified<R: Files, W: Write, P: Progress>(
+fn shard_verified<R: Files, W: Write, P: Watcher>(
     alloc: Global,
     files: &R,
     asked: VerificationAsked<'_>,

@@ -33,12 +33,6 @@ const MOST_VALUES: usize = 6_000_000;
 /// positions with White to move.
 const MOST_CELLS: u64 = 5_000_000;
 
-/// Sees how the walk over a material's positions goes, and its end.
-pub trait Progress: Watcher {
-    /// Sees that the walk has ended.
-    fn end(&mut self);
-}
-
 /// Why a material is not verified.
 #[derive(Drop)]
 pub enum Cause {
@@ -100,7 +94,7 @@ pub struct VerifiedCounts {
 /// those that a log has with the same tables. Writes a line for each, and a summary.
 ///
 /// Errors: the output's; an allocation was refused.
-pub fn verify_materials<W: Write, P: Progress>(
+pub fn verify_materials<W: Write, P: Watcher>(
     alloc: Global,
     tables: &[Table],
     materials: &[Material],
@@ -172,7 +166,7 @@ fn counted(tally: VerifiedCounts, found: &MaterialFinding) -> VerifiedCounts {
 /// not.
 ///
 /// Errors: the output's; an allocation was refused.
-pub fn verify_shard<W: Write, P: Progress>(
+pub fn verify_shard<W: Write, P: Watcher>(
     alloc: Global,
     tables: &[Table],
     material: &Material,
@@ -221,7 +215,7 @@ fn is_empty<T>(items: &[T]) -> bool
 ///
 /// Errors: an allocation was refused.
 #[tactic(auto, using(crate::proofs::Causes::logged_in))]
-fn verify_material<P: Progress>(
+fn verify_material<P: Watcher>(
     alloc: Global,
     tables: &[Table],
     material: &Material,
@@ -257,7 +251,7 @@ fn verify_material<P: Progress>(
 /// the number of positions if each passes, or why one does not.
 ///
 /// Errors: an allocation of cells was refused. If one of lists of values is, the walk goes on without them.
-fn walk<P: Progress>(
+fn walk<P: Watcher>(
     alloc: Global,
     tables: &[Table],
     material: &Material,

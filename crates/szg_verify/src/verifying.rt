@@ -40,7 +40,9 @@ pub fn verify<T: Tables, D: DtzTables<Fault = T::Fault>, W: Watcher>(
     let mut positions: u64 = 0;
     for material in materials {
         let count = number_count(material);
-        let walked = match verify_range(classes, distances, material, 0, count, cells, watcher) {
+        let walked = verify_range(classes, distances, material, 0, count, cells, watcher);
+        watcher.end();
+        let walked = match walked {
             Ok(walked) => walked,
             Err(fault) => return Err(fault),
         };

@@ -44,6 +44,9 @@ pub struct RefusedPosition {
 pub trait Watcher {
     /// Sees that the numbers of a range that ends at `to` were checked below `done`, and how many positions they placed.
     fn see_progress(&mut self, material: &Material, done: u64, to: u64, positions: u64);
+
+    /// Sees that the walk over a material or a shard has ended.
+    fn end(&mut self);
 }
 
 /// Returns the number of ways to put the men of a material on squares, 64 for each man.

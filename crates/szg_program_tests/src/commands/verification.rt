@@ -7,10 +7,10 @@ use std::io;
 use std::process::Abort;
 use std::test::Fail;
 use std::time::{Clock, Duration};
+use szg_commands::{ProgressLine, ReadLine};
 use szg_files::{MemoryFile, MemoryFiles, ReadWatcher};
-use szg_runs::{ProgressLine, ReadLine};
 use szg_values::Material;
-use szg_verified::{Progress, verify_folder};
+use szg_verified::verify_folder;
 use szg_verify::Watcher;
 
 /// A clock that goes on by a second at each reading.
@@ -115,7 +115,7 @@ fn progress_on_a_terminal(rt: HostRuntime) -> Result<(), Fail> {
     let queen = material(&rt, "KQvK");
     line.see_progress(&queen, 65_536, 262_144, 10_000);
     line.see_progress(&queen, 131_072, 262_144, 22_000);
-    Progress::end(&mut line);
+    Watcher::end(&mut line);
     let shown = errors.take(rt.alloc())?;
     assert_eq!(&rt;
         shown.as_str(),

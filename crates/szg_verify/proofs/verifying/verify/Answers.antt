@@ -16,8 +16,8 @@ loop-material-preserved g c =
     let here_classes = g.T.Tables.stored c.loop-material.classes in
     let here_distances = g.D.DtzTables.distances c.loop-material.distances in
     record {
-      same_classes = c.verify_range.ensures.same_classes ∙ before.same_classes;
-      same_distances = c.verify_range.ensures.same_distances ∙ before.same_distances;
+      same_classes = c.verify_range-walked.ensures.same_classes ∙ before.same_classes;
+      same_distances = c.verify_range-walked.ensures.same_distances ∙ before.same_distances;
       checked = λ sides held. elim (one_more c.args.materials.now c.loop-material.material-index c.material-item.result sides c.loop-material-test.true c.material-item.is held) [
         | inl same ↦ subst (IsMaterialChecked (tables_of classes distances)) same
             (carried (λ (t : StoredTables). IsMaterialChecked t c.material-item.result) here_classes classes here_distances distances before.same_classes before.same_distances

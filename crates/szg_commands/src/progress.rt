@@ -6,7 +6,6 @@ use std::time::{Clock, Duration, Instant};
 use szg_files::ReadWatcher;
 use szg_subtable::Watcher;
 use szg_values::Material;
-use szg_verified::Progress;
 use szg_verify::Watcher as WalkWatcher;
 
 /// Returns to the beginning of the terminal's line and erases it.
@@ -183,9 +182,7 @@ impl<'a, E: Eprint, C: Clock> WalkWatcher for ProgressLine<'a, E, C> {
             self.show_walk(walk, now, material, done, to, positions);
         }
     }
-}
 
-impl<'a, E: Eprint, C: Clock> Progress for ProgressLine<'a, E, C> {
     fn end(&mut self) {
         if self.walk.is_some() {
             let _ = eprint!(self.errors; "{ERASE}");
@@ -285,7 +282,7 @@ impl<'a, E: Eprint, C: Clock> ReadWatcher for ReadLine<'a, E, C> {
 
 /// An output whose lines come above what a terminal shows of reads.
 #[derive(Drop)]
-pub struct Above<'a, 'b, W, E, C> {
+pub(crate) struct Above<'a, 'b, W, E, C> {
     /// Where the lines are written.
     pub output: W,
     /// The line of reads, which is erased before each write.
