@@ -4,7 +4,6 @@ ghost use Rattle.std.specs.Prelude.{◌≡◌, OnErr, OnOk};
 use crate::progress::{Above, ReadLine};
 use crate::results::write_results;
 use crate::statuses::{ending_status, status_of};
-use std::alloc::Global;
 use std::io::{self, BufWriter, Read, Write};
 use std::process::ExitCode;
 use std::rt::Files;
@@ -61,16 +60,16 @@ fn print_meant(rt: &(impl Eprint + AllocGlobal), texts: &[&str]) {
 
 /// Runs the words of a command other than `verify` on a machine's files, on an input and an output; faults are printed on
 /// standard error. `watcher` sees a build, and `reads` shows what is read of files. `is_terminal` says whether the output is a
-/// terminal.
-pub fn run_command<D: Files + Clock>(
+/// terminal. Nothing that follows a table or a dump is taken from the input.
+pub fn run_command<'a, D: Files + Clock>(
     rt: &(impl Eprint + AllocGlobal),
-    machine: &D,
-    texts: &[&str],
+    machine: &'a D,
+    texts: &'a [&'a str],
     is_terminal: bool,
     input: impl Read + Drop,
     output: impl Write + Drop,
     watcher: &mut impl Watcher,
-    reads: &ReadLine<'_, impl Eprint, impl Clock>,
+    reads: &'a ReadLine<'_, impl Eprint, impl Clock>,
 ) -> ExitCode
 where
     D::File: Lock,
@@ -79,54 +78,25 @@ where
         let written = write_results(rt.alloc(), machine, asked, is_terminal, input, output);
         return status_of(rt, &outcome_of(written));
     }
-    let (ending, is_closed) = run_on_streams(
-        rt.alloc(),
-        machine,
-        texts,
-        input,
-        Above { output, reads },
-        watcher,
-        reads,
-    );
-    reads.erase();
-    if is_refused(&ending) && !is_closed {
-        print_meant(rt, texts);
-    }
-    ending_status(rt, ending, is_closed)
-}
-
-/// Runs the words on a machine's files, on an input and an output; also whether the reader of the output closed it.
-/// Nothing that follows a table or a dump is taken from the input.
-fn run_on_streams<'a, D: Files + Clock>(
-    alloc: Global,
-    machine: &'a D,
-    texts: &'a [&'a str],
-    input: impl Read + Drop,
-    output: impl Write + Drop,
-    watcher: &mut impl Watcher,
-    reads: &ReadLine<'_, impl Eprint, impl Clock>,
-) -> (Ending<'a>, bool)
-where
-    D::File: Lock,
-{
-    let Ok(copies) = copies_of(alloc, texts) else {
-        return (Ending::Memory, false);
+    let Ok(copies) = copies_of(rt.alloc(), texts) else {
+        return status_of(rt, &Outcome::Memory);
     };
     // each line of a check or a copy is written when its file was checked, so that a run that is cut off leaves whole lines
     let buffer = match copies {
         None if texts.get(1) != Some(&"check") => 1 << 13,
         _ => 0,
     };
-    let Ok(mut writer) = BufWriter::with_capacity(alloc, buffer, Monitored::new(output)) else {
-        return (Ending::Memory, false);
+    let above = Monitored::new(Above { output, reads });
+    let Ok(mut writer) = BufWriter::with_capacity(rt.alloc(), buffer, above) else {
+        return status_of(rt, &Outcome::Memory);
     };
-    let mut disk = Disk::watched(alloc, machine, reads);
-    let mut reader = ReadAhead::new(alloc, Std::new(input));
+    let mut disk = Disk::watched(rt.alloc(), machine, reads);
+    let mut reader = ReadAhead::new(rt.alloc(), Std::new(input));
     let mut output = Std::new(&mut writer);
     let ending = match &copies {
-        Some(asked) => run_copies(alloc, &mut disk, machine, asked, &mut output),
+        Some(asked) => run_copies(rt.alloc(), &mut disk, machine, asked, &mut output),
         None => run_words(
-            alloc,
+            rt.alloc(),
             &Clap,
             texts,
             &mut disk,
@@ -136,10 +106,14 @@ where
             watcher,
         ),
     };
-    let flushed = writer.flush();
+    let ending = finish(ending, writer.flush());
     let is_closed = match writer.get_ref().error() {
         Some(error) => error.kind() == io::ErrorKind::BrokenPipe,
         None => false,
     };
-    (finish(ending, flushed), is_closed)
+    reads.erase();
+    if is_refused(&ending) && !is_closed {
+        print_meant(rt, texts);
+    }
+    ending_status(rt, ending, is_closed)
 }

@@ -2,6 +2,5 @@
 #![tactic(auto)]
 
 mod running;
-mod verification;
 
 pub use running::{run_given, words_given};

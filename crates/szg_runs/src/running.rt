@@ -1,7 +1,6 @@
 //! A run of the program: a command line on a machine's files and on an input and an output.
 ghost use Rattle.std.specs.Prelude.{◌≡◌, IfOk, map, string_bytes};
 
-use crate::verification::verify_words;
 use std::alloc::{AllocError, Global};
 use std::env::{self, Env};
 use std::io::{self, Read, Write};
@@ -12,8 +11,9 @@ use szg_answers::Outcome;
 use szg_build::Watcher;
 use szg_commands::{ReadLine, outcome_of, run_command, status_of};
 use szg_files::Lock;
+use szg_verified::{VerificationAsked, run_verification};
 use szg_verify::Watcher as WalkWatcher;
-use szg_words::{assumes_win, verification_of};
+use szg_words::{FolderWords, assumes_win, verification_of};
 
 /// The words of the command line.
 pub fn words_given(rt: &(impl Env + AllocGlobal)) -> io::Result<Vec<String>> {
@@ -74,4 +74,28 @@ where
         let _ = eprintln!(rt; "this is the number of a win: for another class give --class");
     }
     status
+}
+
+/// Verifies what a command line asks for, and writes a line for each material and a summary, or the line of a shard. Returns
+/// whether all is verified or logged.
+///
+/// Errors: the output's; an allocation was refused.
+fn verify_words(
+    alloc: Global,
+    machine: &impl Files,
+    asked: &FolderWords<'_>,
+    mut output: impl Write + Drop,
+    watcher: &mut impl WalkWatcher,
+) -> io::Result<bool> {
+    let Some((folder, names)) = asked.words.split_first() else {
+        return Ok(false);
+    };
+    let asked = VerificationAsked {
+        folder,
+        names,
+        log: asked.log,
+        shard: asked.shard,
+    };
+    let run = run_verification(alloc, machine, asked, &mut output, watcher)?;
+    Ok(run.is_passed())
 }
