@@ -1,4 +1,4 @@
-//! Tests of the program's commands, through the public items of `szg_answers`, `szg_runs` and `szg_commands` alone: words, answers,
+//! Tests of the program's commands, through the public items of `szg_answers`, `szg_shown` and `szg_commands` alone: words, answers,
 //! statuses, texts, and devices that fail.
 #![tactic(auto)]
 

@@ -3,8 +3,8 @@
 
 use std::io::{self, IsTerminal};
 use std::process::ExitCode;
-use szg_commands::{ProgressLine, ReadLine, no_words_status};
-use szg_runs::{run_given, words_given};
+use szg_commands::{no_words_status, run_given, words_given};
+use szg_shown::{ProgressLine, ReadLine};
 
 /// Runs the words of the command line on the system's files and the standard streams.
 ///

@@ -9,8 +9,8 @@ use std::process::{Abort, ExitCode};
 use std::rt::Files;
 use std::test::Fail;
 use std::time::Clock;
-use szg_commands::{ProgressLine, ReadLine, no_words_status};
-use szg_runs::run_given;
+use szg_commands::{no_words_status, run_given};
+use szg_shown::{ProgressLine, ReadLine};
 
 /// Standard error in memory.
 #[derive(Drop)]

@@ -282,7 +282,7 @@ impl<'a, E: Eprint, C: Clock> ReadWatcher for ReadLine<'a, E, C> {
 
 /// An output whose lines come above what a terminal shows of reads.
 #[derive(Drop)]
-pub(crate) struct Above<'a, 'b, W, E, C> {
+pub struct Above<'a, 'b, W, E, C> {
     /// Where the lines are written.
     pub output: W,
     /// The line of reads, which is erased before each write.

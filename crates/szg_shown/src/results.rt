@@ -9,7 +9,7 @@ use szg_words::{AnswerForm, ProbeWords};
 
 /// Writes the results that a command line asks for, one position's on a terminal below its board; returns whether no position
 /// was refused.
-pub(crate) fn write_results(
+pub fn write_results(
     alloc: Global,
     machine: &impl Files,
     asked: ProbeWords<'_>,

@@ -1,5 +1,5 @@
 use Rattle.std.proofs.Common.{◌≡◌, map, take, string_bytes}
-use Rattle.szg_runs.proofs.running.texts_of.Given as goal
+use Rattle.szg_commands.proofs.running.texts_of.Given as goal
 
 -- the texts so far
 abbrev pub invariant-words : goal.invariant-words
