@@ -8,6 +8,7 @@ use crate::folder::{
     ShardVerification, Verification, VerifyStop, materials_in, verify_folder, verify_folder_shard,
 };
 use crate::log::shard_of;
+use crate::verifying::write_line;
 use std::alloc::{AllocError, Global};
 use std::fs;
 use std::io::{self, Read, Write};
@@ -80,8 +81,7 @@ pub fn run_verification<R: Files, W: Write, P: Watcher>(
         Err(stop) => stop,
     };
     let text = text_of(alloc, asked, &stop)?;
-    output.write_all(text.as_bytes())?;
-    output.flush()?;
+    write_line(output, text.as_str())?;
     Ok(Run::Refused)
 }
 

@@ -123,8 +123,7 @@ pub fn verify_materials<W: Write, P: Watcher>(
         let digest = digest.as_str();
         let found = verify_material(alloc, tables, material, &unverified, log, digest, progress)?;
         let line = material_line(alloc, material, &found, digest)?;
-        output.write_all(line.as_bytes())?;
-        output.flush()?;
+        write_line(output, line.as_str())?;
         tally = counted(tally, &found);
         match found {
             MaterialFinding::Verified(_) => {}
@@ -137,13 +136,18 @@ pub fn verify_materials<W: Write, P: Watcher>(
     }
     let is_all = is_whole(materials, &unverified);
     let line = summary_line(alloc, is_all, &tally)?;
-    output.write_all(line.as_bytes())?;
-    output.flush()?;
+    write_line(output, line.as_str())?;
     Ok(VerifiedMaterials {
         is_all,
         unverified,
         logged,
     })
+}
+
+/// Writes a line, so that it is there if what follows takes long.
+pub(crate) fn write_line<W: Write>(output: &mut W, line: &str) -> io::Result<()> {
+    output.write_all(line.as_bytes())?;
+    output.flush()
 }
 
 /// Counts what was found of one more material.
@@ -184,8 +188,7 @@ pub fn verify_shard<W: Write, P: Watcher>(
     let positions = walk(alloc, tables, material, from, to, progress)?;
     let digest = digest_of(alloc, tables, material)?;
     let line = shard_line(alloc, material, shard, &positions, digest.as_str())?;
-    output.write_all(line.as_bytes())?;
-    output.flush()?;
+    write_line(output, line.as_str())?;
     Ok(positions)
 }
 
