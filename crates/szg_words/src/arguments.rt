@@ -2,7 +2,8 @@
 
 use clap::builder::{ValueParser, ValueRange};
 use clap::{Arg, ArgAction};
-use std::alloc::{AllocError, Global};
+use std::alloc::Global;
+use std::fmt::{self, Display, Formatter, Write};
 
 /// An argument of a command.
 #[derive(Clone, Copy)]
@@ -14,7 +15,7 @@ pub struct Argument {
     action: ArgAction,
     is_required: bool,
     short: Option<char>,
-    default: Option<&'static str>,
+    default: &'static [&'static str],
     values: ValueParser<'static>,
     /// The least number that it takes.
     pub least: u64,
@@ -30,7 +31,7 @@ const WORD: Argument = Argument {
     action: ArgAction::Set,
     is_required: true,
     short: None,
-    default: None,
+    default: &[],
     values: ValueParser::String,
     least: 0,
     greatest: 0,
@@ -181,7 +182,7 @@ pub(crate) const FILES_SHARD: Argument = Argument {
 pub(crate) const REPORT: Argument = Argument {
     id: "format",
     value: Some("FORMAT"),
-    default: Some("text"),
+    default: &["text"],
     values: ValueParser::Names(&["text", "tsv", "json"]),
     help: "Format of the report: text is one line per file; tsv and json are one record per file:{n}path, verdict, bytes, reason, offset (bytes), time (seconds), last change{n}(nanoseconds from 1970); a summary follows",
     ..OPTION
@@ -217,7 +218,7 @@ pub(crate) const MEN: Argument = Argument {
 pub(crate) const PART: Argument = Argument {
     id: "part",
     value: Some("PART"),
-    default: Some("a"),
+    default: &["a"],
     values: ValueParser::Names(&["a", "b", "c", "d"]),
     help: "Part, by the file of the lead pawn: a for a and h, b for b and g, c for c and f,{n}d for d and e; a table without pawns has part a only",
     ..OPTION
@@ -226,7 +227,7 @@ pub(crate) const PART: Argument = Argument {
 pub(crate) const SIDE: Argument = Argument {
     id: "side",
     value: Some("SIDE"),
-    default: Some("0"),
+    default: &["0"],
     greatest: 1,
     help: "Side, 0 or 1: in a WDL table with two sides, 0 is where the first side of the name{n}moves; every other table has side 0 only",
     ..NUMBER
@@ -235,7 +236,7 @@ pub(crate) const SIDE: Argument = Argument {
 pub(crate) const CLASS: Argument = Argument {
     id: "class",
     value: Some("CLASS"),
-    default: Some("win"),
+    default: &["win"],
     values: ValueParser::Names(&["win", "cursed", "draw", "blessed", "loss"]),
     help: "Class of the placement for the side to move, which a DTZ table does not store; its number,{n}the plies before the zeroing one, is that of a win unless another class is given, and may be{n}one ply too low if the table stores it in moves, rounded; ignored{n}for a WDL table",
     ..OPTION
@@ -244,7 +245,7 @@ pub(crate) const CLASS: Argument = Argument {
 pub(crate) const FORM: Argument = Argument {
     id: "form",
     value: Some("FORM"),
-    default: Some("2"),
+    default: &["2"],
     least: 1,
     greatest: 2,
     help: "Format of the dump: 1 writes a line per value, 2 a line per run of equal values",
@@ -254,7 +255,7 @@ pub(crate) const FORM: Argument = Argument {
 pub(crate) const PLAN: Argument = Argument {
     id: "plan",
     value: Some("PLAN"),
-    default: Some("fixed"),
+    default: &["fixed"],
     values: ValueParser::Names(&["fixed", "small"]),
     help: "fixed takes --block, --span and --rounds; small chooses for a small file, and takes{n}none of them",
     ..OPTION
@@ -263,7 +264,7 @@ pub(crate) const PLAN: Argument = Argument {
 pub(crate) const BLOCK: Argument = Argument {
     id: "block",
     value: Some("BITS"),
-    default: Some("6"),
+    default: &["6"],
     least: 5,
     greatest: 10,
     help: "Size of a block: 2^BITS bytes, with BITS from 5 to 10",
@@ -273,7 +274,7 @@ pub(crate) const BLOCK: Argument = Argument {
 pub(crate) const SPAN: Argument = Argument {
     id: "span",
     value: Some("BITS"),
-    default: Some("12"),
+    default: &["12"],
     least: 1,
     greatest: 16,
     help: "Span of a sparse index entry: 2^BITS values, with BITS from 1 to 16",
@@ -283,7 +284,7 @@ pub(crate) const SPAN: Argument = Argument {
 pub(crate) const ROUNDS: Argument = Argument {
     id: "rounds",
     value: Some("COUNT"),
-    default: Some("256"),
+    default: &["256"],
     greatest: 4000,
     help: "Maximum number of pairs in a dictionary, from 0 to 4000",
     ..NUMBER
@@ -301,29 +302,29 @@ pub(crate) const VERIFY: Argument = Argument {
     ..FLAG
 };
 
-impl Argument {
-    /// Returns its form in a usage.
-    pub(crate) fn shown(&self, alloc: Global) -> Result<String, AllocError> {
+/// Its form in a usage.
+impl Display for Argument {
+    fn fmt<W: Write>(&self, f: &mut Formatter<W>) -> fmt::Result {
         let id = self.id;
         match self.value {
-            Some(value) => format!(in alloc; "--{id} <{value}>"),
-            None => format!(in alloc; "<{id}>"),
+            Some(value) => write!(f, "--{id} <{value}>"),
+            None => write!(f, "<{id}>"),
         }
     }
+}
 
+impl Argument {
     /// The argument as `clap` has it.
     pub(crate) fn to_clap<'a>(&self, alloc: Global) -> Arg<'a> {
         let mut arg = Arg::new(alloc, self.id)
             .action(self.action)
             .required(self.is_required)
             .value_parser(self.values)
+            .default_values(self.default)
             .allow_negative_numbers(self.greatest > 0)
             .help(self.help);
         if let Some(letter) = self.short {
             arg = arg.short(letter);
-        }
-        if let Some(default) = self.default {
-            arg = arg.default_value(default);
         }
         match (self.value, self.action) {
             (Some(value), _) => arg.long(self.id).value_name(value),

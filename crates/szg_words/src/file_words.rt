@@ -240,9 +240,9 @@ fn check_in<'a>(usage: Usage<'_>, chosen: &ArgMatches<'a>) -> Result<FileJob<'a>
 {
     Ok(FileJob::Check(CheckJob {
         naming: naming_in(chosen),
-        allow_trailing: is_given(chosen.get_str("allow-trailing"), "true"),
+        allow_trailing: is_given(chosen, "allow-trailing", "true"),
         format: report_format_of(chosen.get_str("format")),
-        quiet: is_given(chosen.get_str("quiet"), "true"),
+        quiet: is_given(chosen, "quiet", "true"),
         shard: shard_in(usage, chosen)?,
         lists: texts_in(usage.alloc, chosen, "sums")?,
         logs: texts_in(usage.alloc, chosen, "resume")?,
@@ -264,7 +264,7 @@ fn table_job_in<'a>(usage: Usage<'_>, chosen: &ArgMatches<'a>) -> Result<FileJob
         return Err(usage.error(ErrorKind::MissingRequiredArgument, message)?);
     };
     let request = request_on(usage, chosen, name, kind)?;
-    if request.action.is_look_up() && !is_given(chosen.get_str("verify"), "true") {
+    if request.action.is_look_up() && !is_given(chosen, "verify", "true") {
         return Ok(FileJob::LookUp {
             request,
             source: path,

@@ -10,11 +10,11 @@ use crate::arguments::Argument;
 use clap::ArgMatches;
 
 /// Parses the number of an argument's word. Errors: the word, if it isn't one of the argument's numbers.
-pub fn number_of<'a>(chosen: &ArgMatches<'a>, argument: Argument) -> Result<u64, &'a str>
-    ensures stated { IfOk result (λ n. number_from argument.least argument.greatest (word_of (found_of chosen.now) argument.id.now) ≡ Some n) }
-    ensures within { IfOk result (λ n. (argument.least ≤ n) × (n ≤ argument.greatest)) }
-    ensures refused { IfErr result (λ word. number_from argument.least argument.greatest (word_of (found_of chosen.now) argument.id.now) ≡ None) }
-    ensures fault { IfErr result (λ word. word.now ≡ word_of (found_of chosen.now) argument.id.now) }
+pub fn number_of<'a>(chosen: &ArgMatches<'a>, argument: &Argument) -> Result<u64, &'a str>
+    ensures stated { IfOk result (λ n. number_from argument.now.least argument.now.greatest (word_of (found_of chosen.now) argument.now.id.now) ≡ Some n) }
+    ensures within { IfOk result (λ n. (argument.now.least ≤ n) × (n ≤ argument.now.greatest)) }
+    ensures refused { IfErr result (λ word. number_from argument.now.least argument.now.greatest (word_of (found_of chosen.now) argument.now.id.now) ≡ None) }
+    ensures fault { IfErr result (λ word. word.now ≡ word_of (found_of chosen.now) argument.now.id.now) }
 {
     let word = chosen.get_str(argument.id).unwrap_or("");
     match number(word) {

@@ -131,6 +131,9 @@ pub struct Request<'a> {
     pub action: Action,
 }
 
+/// The sizes of a fixed plan.
+static SIZES: [Argument; 3] = [BLOCK, SPAN, ROUNDS];
+
 /// The program's name, where no word is given.
 static ALONE: [&str; 1] = ["szg"];
 
@@ -171,11 +174,11 @@ pub(crate) fn missing_command(alloc: Global, form: CommandForm) -> Result<Error,
     program(alloc, form)?.error(ErrorKind::MissingSubcommand, "a command is missing")
 }
 
-/// Whether there is this word.
-pub(crate) fn is_given(given: Option<&str>, word: &str) -> bool
-    ensures { result ≡ is_word (option_map (λ text. text.now) given.entry) word.now }
+/// Whether an argument's value is this word.
+pub(crate) fn is_given(chosen: &ArgMatches<'_>, argument: &str, word: &str) -> bool
+    ensures { result ≡ is_word (first_value (found_of chosen.now) argument.now) word.now }
 {
-    match given {
+    match chosen.get_str(argument) {
         Some(text) => text == word,
         None => false,
     }
@@ -192,22 +195,16 @@ fn is_typed(chosen: &ArgMatches<'_>, argument: &str) -> bool
 }
 
 /// Returns the first number of a fixed plan that is given with a small plan.
-fn unused_by_plan(chosen: &ArgMatches<'_>) -> Option<Argument>
+fn unused_by_plan(chosen: &ArgMatches<'_>) -> Option<&'static Argument>
     ensures { MatchOption result (has_unused (found_of chosen.now) ≡ false) (λ argument. has_unused (found_of chosen.now) ≡ true) }
 {
-    if !is_given(chosen.get_str("plan"), "small") {
-        return None;
+    match &SIZES {
+        _ if !is_given(chosen, "plan", "small") => None,
+        [block, _, _] if is_typed(chosen, "block") => Some(block),
+        [_, span, _] if is_typed(chosen, "span") => Some(span),
+        [_, _, rounds] if is_typed(chosen, "rounds") => Some(rounds),
+        _ => None,
     }
-    if is_typed(chosen, "block") {
-        return Some(BLOCK);
-    }
-    if is_typed(chosen, "span") {
-        return Some(SPAN);
-    }
-    if is_typed(chosen, "rounds") {
-        return Some(ROUNDS);
-    }
-    None
 }
 
 /// Checks that no number of a fixed plan is given with a small plan.
@@ -218,9 +215,8 @@ pub(crate) fn check_plan(usage: Usage<'_>, chosen: &ArgMatches<'_>) -> Result<()
     let Some(argument) = unused_by_plan(chosen) else {
         return Ok(());
     };
-    let shown = argument.shown(usage.alloc)?;
     let message = format!(in usage.alloc;
-        "the argument '--plan small' cannot be used with '{shown}'"
+        "the argument '--plan small' cannot be used with '{argument}'"
     )?;
     Err(usage.error(ErrorKind::ArgumentConflict, message.as_str())?)
 }
@@ -243,13 +239,14 @@ pub fn plan_in(usage: Usage<'_>, chosen: &ArgMatches<'_>) -> Result<BuildPlan, E
     ensures plan { IfOk result (IsPlanIn (found_of chosen.now)) }
     ensures none { IfErr result (λ error. IsErrorOf ErrorKind.ValueValidation error × (is_word (first_value (found_of chosen.now) (codes "plan")) (codes "small") ≡ false) × (has_sizes (found_of chosen.now) ≡ false)) }
 {
-    if is_given(chosen.get_str("plan"), "small") {
+    if is_given(chosen, "plan", "small") {
         return Ok(BuildPlan::Small);
     }
+    let [block, span, rounds] = &SIZES;
     Ok(BuildPlan::Fixed {
-        block_bits: usage.number(chosen, BLOCK)? as u8,
-        span_bits: usage.number(chosen, SPAN)? as u8,
-        rounds: usage.number(chosen, ROUNDS)? as u32,
+        block_bits: usage.number(chosen, block)? as u8,
+        span_bits: usage.number(chosen, span)? as u8,
+        rounds: usage.number(chosen, rounds)? as u32,
     })
 }
 
@@ -272,8 +269,9 @@ pub(crate) fn request_on<'a>(
     } else {
         action_without_men(usage, chosen)?
     };
+    static ASKED_SIDE: Argument = SIDE;
     let side = match usage.command {
-        "get" | "values" | "placement" => usage.number(chosen, SIDE)? as u8,
+        "get" | "values" | "placement" => usage.number(chosen, &ASKED_SIDE)? as u8,
         _ => 0,
     };
     Ok(Request {
@@ -297,27 +295,21 @@ fn action_without_men(usage: Usage<'_>, chosen: &ArgMatches<'_>) -> Result<Actio
     ensures action { IfOk result (λ action. parsed_action usage.entry.command.now (found_of chosen.now) ≡ Some action) }
     ensures none { IfErr result (λ error. IsErrorOf ErrorKind.ValueValidation error × IsNone (parsed_action usage.entry.command.now (found_of chosen.now))) }
 {
+    static ASKED_INDEX: Argument = INDEX;
+    static ASKED_FORM: Argument = FORM;
     Ok(match usage.command {
         "check" => Action::Check,
         "show" => Action::Show,
-        "get" => {
-            let index = usage.number(chosen, INDEX)?;
-            if is_given(chosen.get_str("steps"), "true") {
-                Action::GetCounted(index)
-            } else {
-                Action::Get(index)
-            }
-        }
+        "get" => match usage.number(chosen, &ASKED_INDEX)? {
+            index if is_given(chosen, "steps", "true") => Action::GetCounted(index),
+            index => Action::Get(index),
+        },
         "values" => Action::Values,
-        "placement" => Action::Placement(usage.number(chosen, INDEX)?),
-        "dump" => {
-            let form = if usage.number(chosen, FORM)? == 1 {
-                DumpForm::Values
-            } else {
-                DumpForm::Runs
-            };
-            Action::Dump(form)
-        }
+        "placement" => Action::Placement(usage.number(chosen, &ASKED_INDEX)?),
+        "dump" => Action::Dump(match usage.number(chosen, &ASKED_FORM)? {
+            1 => DumpForm::Values,
+            _ => DumpForm::Runs,
+        }),
         _ => Action::Copy,
     })
 }

@@ -27,24 +27,23 @@ impl Usage<'_> {
         ensures kind { IfOk result (λ error. kind_of error ≡ kind) }
     {
         let name = format!(in self.alloc; "szg {}", self.command)?;
-        let mut command = command_of(self.alloc, self.command, self.form)?.bin_name(name.as_str())?;
-        command.error(kind, message)
+        let command = command_of(self.alloc, self.command, self.form)?;
+        command.name(name.as_str()).error(kind, message)
     }
 
     /// Parses the number of an argument's word. Errors: the word isn't one of the argument's numbers.
-    pub fn number(self, chosen: &ArgMatches<'_>, argument: Argument) -> Result<u64, Error>
-        ensures stated { IfOk result (λ n. number_from argument.least argument.greatest (word_of (found_of chosen.now) argument.id.now) ≡ Some n) }
-        ensures within { IfOk result (λ n. (argument.least ≤ n) × (n ≤ argument.greatest)) }
-        ensures refused { IfErr result (λ error. number_from argument.least argument.greatest (word_of (found_of chosen.now) argument.id.now) ≡ None) }
+    pub fn number(self, chosen: &ArgMatches<'_>, argument: &Argument) -> Result<u64, Error>
+        ensures stated { IfOk result (λ n. number_from argument.now.least argument.now.greatest (word_of (found_of chosen.now) argument.now.id.now) ≡ Some n) }
+        ensures within { IfOk result (λ n. (argument.now.least ≤ n) × (n ≤ argument.now.greatest)) }
+        ensures refused { IfErr result (λ error. number_from argument.now.least argument.now.greatest (word_of (found_of chosen.now) argument.now.id.now) ≡ None) }
         ensures kind { IfErr result (IsErrorOf ErrorKind.ValueValidation) }
     {
         let word = match number_of(chosen, argument) {
             Ok(number) => return Ok(number),
             Err(word) => word,
         };
-        let shown = argument.shown(self.alloc)?;
         let message = format!(in self.alloc;
-            "invalid value '{word}' for '{shown}': not a number from {} to {}",
+            "invalid value '{word}' for '{argument}': not a number from {} to {}",
             argument.least, argument.greatest
         )?;
         Err(self.error(ErrorKind::ValueValidation, message.as_str())?)
