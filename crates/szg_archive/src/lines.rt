@@ -1,5 +1,5 @@
 //! The lines of a report.
-ghost use Rattle.std.specs.Prelude.{◌≡◌, ◌++◌, ◌∷◌, [], ◌+◌, ◌/◌, ◌%◌, ◌^◌, ◌<◌, IfOk, OnOk, string_bytes};
+ghost use Rattle.std.specs.Prelude.{◌≡◌, ◌++◌, ◌∷◌, [], ◌+◌, ◌/◌, ◌%◌, ◌^◌, ◌<◌, IfOk, OnOk, decimal, string_bytes};
 ghost use Rattle.szg_archive.specs.Records.{escaped_byte_in, escaped_in, json_byte};
 ghost use Rattle.szg_archive.specs.Lines.{IsLine, IsVerdictText, escaped, escaped_byte, hex_digit, path_text, skip_reason, more_text, summary_text};
 
@@ -119,6 +119,20 @@ pub fn verdict_line(
     Ok(line)
 }
 
+/// Returns a line's end: a text, and a word.
+fn worded(alloc: Global, text: &str, word: &str) -> Result<String, AllocError>
+    ensures { IfOk result (λ end. string_bytes end ≡ text.now ++ (word.now ++ 10 ∷ [])) }
+{
+    format!(in alloc; "{text}{word}\n")
+}
+
+/// Returns a line's end: a text, a number, and what follows that.
+fn numbered(alloc: Global, text: &str, number: u64, rest: &str) -> Result<String, AllocError>
+    ensures { IfOk result (λ end. string_bytes end ≡ text.now ++ (decimal number ++ (rest.now ++ 10 ∷ []))) }
+{
+    format!(in alloc; "{text}{number}{rest}\n")
+}
+
 /// Returns the text of a verdict, up to the end of its line.
 fn verdict_text(
     alloc: Global,
@@ -128,38 +142,32 @@ fn verdict_text(
     ensures { IfOk result (λ text. IsVerdictText allow_trailing verdict.now (string_bytes text)) }
 {
     match verdict {
-        FileVerdict::Whole(size) => format!(in alloc; ": ok {size}\n"),
+        FileVerdict::Whole(size) => numbered(alloc, ": ok ", *size, ""),
         FileVerdict::Trailing(size) if allow_trailing => {
-            format!(in alloc; ": ok {size}, more bytes follow\n")
+            numbered(alloc, ": ok ", *size, ", more bytes follow")
         }
-        FileVerdict::Kept(size) => format!(in alloc; ": kept {size}\n"),
-        FileVerdict::Ending => format!(in alloc; ": refused name: Ending\n"),
-        FileVerdict::Name(fault) => {
-            let word = name_word(*fault);
-            format!(in alloc; ": refused name: {word}\n")
-        }
+        FileVerdict::Kept(size) => numbered(alloc, ": kept ", *size, ""),
+        FileVerdict::Ending => worded(alloc, ": refused name: ", "Ending"),
+        FileVerdict::Name(fault) => worded(alloc, ": refused name: ", name_word(*fault)),
         FileVerdict::At(offset, reason) => {
             let word = reason_word(*reason);
             format!(in alloc; ": refused at {offset}: {word}\n")
         }
-        FileVerdict::Trailing(size) => format!(in alloc; ": refused at {size}: Trailing\n"),
+        FileVerdict::Trailing(size) => numbered(alloc, ": refused at ", *size, ": Trailing"),
         FileVerdict::Unopened(fault) => {
             let reason = fault_text(alloc, fault)?;
-            format!(in alloc; ": {reason}\n")
+            worded(alloc, ": ", reason.as_str())
         }
         FileVerdict::Unread(error) => {
             let reason = error_text(alloc, error)?;
-            format!(in alloc; ": {reason}\n")
+            worded(alloc, ": ", reason.as_str())
         }
-        FileVerdict::NoText => format!(in alloc; ": {NO_TEXT}\n"),
-        FileVerdict::Empty => format!(in alloc; ": {EMPTY}\n"),
-        FileVerdict::Skipped(skip) => {
-            let reason = skip_reason(*skip);
-            format!(in alloc; ": skipped: {reason}\n")
-        }
-        FileVerdict::Differs => format!(in alloc; ": refused sum: Differs\n"),
-        FileVerdict::Unlisted => format!(in alloc; ": refused sum: Unlisted\n"),
-        FileVerdict::Missing => format!(in alloc; ": refused sum: Missing\n"),
+        FileVerdict::NoText => worded(alloc, ": ", NO_TEXT),
+        FileVerdict::Empty => worded(alloc, ": ", EMPTY),
+        FileVerdict::Skipped(skip) => worded(alloc, ": skipped: ", skip_reason(*skip)),
+        FileVerdict::Differs => worded(alloc, ": refused sum: ", "Differs"),
+        FileVerdict::Unlisted => worded(alloc, ": refused sum: ", "Unlisted"),
+        FileVerdict::Missing => worded(alloc, ": refused sum: ", "Missing"),
     }
 }
 

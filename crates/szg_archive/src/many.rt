@@ -228,7 +228,6 @@ pub fn check_files<S: FileSystem, D: Files + Clock, W: Output>(
 /// Checks the files at these paths and the table files below folders, in their order, as `check_entries`. What is below a
 /// folder comes in the byte order of the paths. A path that ends as a table's file does isn't taken for a folder. Tables that
 /// lists of sums name and that aren't there come last. Of all these a shard has its own.
-#[tactic(auto, using(crate::proofs::Reporting::found_report))]
 pub fn check_found<S: FileSystem, D: Files + Clock, W: Output>(
     alloc: Global,
     system: &mut S,

@@ -73,22 +73,43 @@ fn reason_field(alloc: Global, verdict: &FileVerdict) -> Result<Option<String>, 
     Ok(Some(String::from_str(alloc, word)?))
 }
 
-/// A number's digits, or `absent` if there is none.
-fn number_or(alloc: Global, number: Option<u64>, absent: &str) -> Result<String, AllocError>
-    ensures { IfOk result (λ text. string_bytes text ≡ number_or absent.now number) }
+/// Appends a field after a mark.
+fn push_field(text: &mut Vec<u8>, mark: &str, field: &[u8]) -> Result<(), AllocError>
+    ensures { OnOk result (text.new.items ≡ text.old.items ++ (mark.now ++ field.now)) }
 {
-    match number {
-        Some(number) => format!(in alloc; "{number}"),
-        None => String::from_str(alloc, absent),
-    }
+    text.extend_from_slice(mark.as_bytes())?;
+    Ok(text.extend_from_slice(field)?)
 }
 
-/// A time in seconds with six digits after the point, or `absent` if it isn't known.
-fn seconds_or(alloc: Global, elapsed: &Option<Duration>, absent: &str) -> Result<String, AllocError>
-    ensures { IfOk result (λ text. string_bytes text ≡ seconds_or absent.now (option_map (λ d. as_nanos d) elapsed.now)) }
+/// Appends a number's digits after a mark, or `absent` if there is none.
+fn push_number(
+    alloc: Global,
+    text: &mut Vec<u8>,
+    mark: &str,
+    number: Option<u64>,
+    absent: &str,
+) -> Result<(), AllocError>
+    ensures { OnOk result (text.new.items ≡ text.old.items ++ (mark.now ++ number_or absent.now number)) }
+{
+    let Some(number) = number else {
+        return push_field(text, mark, absent.as_bytes());
+    };
+    let digits = format!(in alloc; "{number}")?;
+    push_field(text, mark, digits.as_bytes())
+}
+
+/// Appends a time in seconds with six digits after the point, or `absent` if it isn't known, after a mark.
+fn push_seconds(
+    alloc: Global,
+    text: &mut Vec<u8>,
+    mark: &str,
+    elapsed: &Option<Duration>,
+    absent: &str,
+) -> Result<(), AllocError>
+    ensures { OnOk result (text.new.items ≡ text.old.items ++ (mark.now ++ seconds_or absent.now (option_map (λ d. as_nanos d) elapsed.now))) }
 {
     let Some(elapsed) = elapsed else {
-        return String::from_str(alloc, absent);
+        return push_field(text, mark, absent.as_bytes());
     };
     let seconds = elapsed.as_secs();
     let micros = elapsed.subsec_micros();
@@ -98,7 +119,8 @@ fn seconds_or(alloc: Global, elapsed: &Option<Duration>, absent: &str) -> Result
         micros / 1000 % 10,
     ];
     let [d, e, f] = [micros / 100 % 10, micros / 10 % 10, micros % 10];
-    format!(in alloc; "{seconds}.{a}{b}{c}{d}{e}{f}")
+    let time = format!(in alloc; "{seconds}.{a}{b}{c}{d}{e}{f}")?;
+    push_field(text, mark, time.as_bytes())
 }
 
 /// These parts, one after another.
@@ -158,52 +180,26 @@ fn tsv_record(
 ) -> Result<Vec<u8>, AllocError>
     ensures { IfOk result (λ line. IsTsvRecord allow_trailing path.now verdict.now line.items) }
 {
-    let tab = "\t".as_bytes();
-    let path = path_text(alloc, verdict, path)?;
     let word = verdict_word(verdict, allow_trailing);
-    let bytes = number_or(alloc, bytes_field(verdict), "")?;
-    let reason = reason_field(alloc, verdict)?;
-    let reason = tsv_reason(alloc, &reason)?;
-    let offset = number_or(alloc, offset_field(verdict), "")?;
-    let seconds = seconds_or(alloc, &timing.elapsed, "")?;
-    let modified = number_or(alloc, timing.modified, "")?;
-    joined(
-        alloc,
-        &[
-            &path,
-            tab,
-            word.as_bytes(),
-            tab,
-            bytes.as_bytes(),
-            tab,
-            &reason,
-            tab,
-            offset.as_bytes(),
-            tab,
-            seconds.as_bytes(),
-            tab,
-            modified.as_bytes(),
-            "\n".as_bytes(),
-        ],
-    )
+    let reason = tsv_reason(alloc, &reason_field(alloc, verdict)?)?;
+    let mut line = path_text(alloc, verdict, path)?;
+    push_field(&mut line, "\t", word.as_bytes())?;
+    push_number(alloc, &mut line, "\t", bytes_field(verdict), "")?;
+    push_field(&mut line, "\t", &reason)?;
+    push_number(alloc, &mut line, "\t", offset_field(verdict), "")?;
+    push_seconds(alloc, &mut line, "\t", &timing.elapsed, "")?;
+    push_number(alloc, &mut line, "\t", timing.modified, "")?;
+    line.push(b'\n')?;
+    Ok(line)
 }
 
-/// The times in a JSON object, and its end.
-fn json_times(alloc: Global, timing: Timing) -> Result<Vec<u8>, AllocError>
-    ensures { IfOk result (λ text. text.items ≡ json_times (option_map (λ d. as_nanos d) timing.elapsed) timing.modified) }
+/// Appends the times in a JSON object, and its end.
+fn push_json_times(alloc: Global, text: &mut Vec<u8>, timing: Timing) -> Result<(), AllocError>
+    ensures { OnOk result (text.new.items ≡ text.old.items ++ json_times (option_map (λ d. as_nanos d) timing.elapsed) timing.modified) }
 {
-    let seconds = seconds_or(alloc, &timing.elapsed, "null")?;
-    let modified = number_or(alloc, timing.modified, "null")?;
-    joined(
-        alloc,
-        &[
-            ",\"seconds\":".as_bytes(),
-            seconds.as_bytes(),
-            ",\"modified\":".as_bytes(),
-            modified.as_bytes(),
-            "}\n".as_bytes(),
-        ],
-    )
+    push_seconds(alloc, text, ",\"seconds\":", &timing.elapsed, "null")?;
+    push_number(alloc, text, ",\"modified\":", timing.modified, "null")?;
+    Ok(text.extend_from_slice(b"}\n")?)
 }
 
 /// Returns the record of a file as a JSON object in a line.
@@ -216,29 +212,18 @@ fn json_record(
 ) -> Result<Vec<u8>, AllocError>
     ensures { IfOk result (λ line. IsJsonRecord allow_trailing path.now verdict.now line.items) }
 {
-    let path = quoted(alloc, path)?;
     let word = verdict_word(verdict, allow_trailing);
-    let bytes = number_or(alloc, bytes_field(verdict), "null")?;
-    let reason = reason_field(alloc, verdict)?;
-    let reason = json_reason(alloc, &reason)?;
-    let offset = number_or(alloc, offset_field(verdict), "null")?;
-    let times = json_times(alloc, timing)?;
-    joined(
-        alloc,
-        &[
-            "{\"path\":".as_bytes(),
-            &path,
-            ",\"verdict\":\"".as_bytes(),
-            word.as_bytes(),
-            "\",\"bytes\":".as_bytes(),
-            bytes.as_bytes(),
-            ",\"reason\":".as_bytes(),
-            &reason,
-            ",\"offset\":".as_bytes(),
-            offset.as_bytes(),
-            &times,
-        ],
-    )
+    let reason = json_reason(alloc, &reason_field(alloc, verdict)?)?;
+    let mut line = Vec::new(alloc);
+    push_field(&mut line, "{\"path\":", &quoted(alloc, path)?)?;
+    push_field(&mut line, ",\"verdict\":\"", word.as_bytes())?;
+    let bytes = bytes_field(verdict);
+    push_number(alloc, &mut line, "\",\"bytes\":", bytes, "null")?;
+    push_field(&mut line, ",\"reason\":", &reason)?;
+    let offset = offset_field(verdict);
+    push_number(alloc, &mut line, ",\"offset\":", offset, "null")?;
+    push_json_times(alloc, &mut line, timing)?;
+    Ok(line)
 }
 
 /// What a report has of a file: its line; or its record, which has its path, what its check says, the seconds that the check

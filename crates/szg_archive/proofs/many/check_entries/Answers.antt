@@ -35,3 +35,9 @@ entries-preserved g c =
       lists = manifest_next g.S.FileSystem.content g.S.FileSystem.failures g.S.File.Input c.args.options c.args.entries.now c.entries.entry-index c.entry-item.result h.found at c.args.system.now c.entries.system h.text
           c.args.options.allow_trailing _ _ _ below c.entry-item.is h.reports h.lists (search rules) c.in_ok-reported.ensures.listed;
     }
+
+pub with-tally-requires : goal.with-tally-requires
+with-tally-requires g c =
+    let all = c.entries.invariant.all in
+    let below : c.entries.entry-index < length c.args.entries.now = omega arith in
+    record { good = omega (arith, all); refused = omega (arith, all); unread = omega (arith, all); kept = omega (arith, all); skipped = omega (arith, all) }
