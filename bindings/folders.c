@@ -34,8 +34,9 @@ struct opened {
     char paths[];              /* those of the folders, separated by ':' */
 };
 
+/* In a cache line of its own, since each call writes to it: other threads' handles would wait for the line. */
 struct szg_folders {
-    struct opened *opened;
+    _Alignas(64) struct opened *opened;
     szg_tablebase tablebase;      /* the tables up to a newest one */
     const struct mapping *newest; /* the file of that one */
 };
@@ -137,7 +138,7 @@ static uint32_t fetch(szg_folders *folders, szg_missing *missing)
 
 uint32_t szg_share_folders(szg_folders *folders, szg_folders **second)
 {
-    szg_folders *handle = malloc(sizeof *handle);
+    szg_folders *handle = aligned_alloc(_Alignof(szg_folders), sizeof *handle);
     if (handle == NULL)
         return SZG_MEMORY;
     *handle = (szg_folders){folders->opened, SZG_NO_TABLEBASE, NULL};

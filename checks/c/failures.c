@@ -41,6 +41,7 @@ void *__real_mmap(void *at, size_t length, int protection, int flags, int file, 
 int __real_munmap(void *at, size_t length);
 void *__real_malloc(size_t size);
 void *__real_calloc(size_t count, size_t size);
+void *__real_aligned_alloc(size_t alignment, size_t size);
 void __real_free(void *block);
 DIR *__real_opendir(const char *name);
 int __real_closedir(DIR *names);
@@ -65,6 +66,7 @@ int __wrap_munmap(void *at, size_t length) { return mapped--, bytes_mapped -= (l
 static void *counted(void *block) { return held += block != NULL, block; }
 void *__wrap_malloc(size_t size) { return fails(MALLOC) ? NULL : counted(__real_malloc(size)); }
 void *__wrap_calloc(size_t count, size_t size) { return fails(MALLOC) ? NULL : counted(__real_calloc(count, size)); }
+void *__wrap_aligned_alloc(size_t alignment, size_t size) { return fails(MALLOC) ? NULL : counted(__real_aligned_alloc(alignment, size)); }
 void __wrap_free(void *block) { held -= block != NULL, __real_free(block); }
 DIR *__wrap_opendir(const char *name) {
     DIR *names = fails(OPENDIR) ? NULL : __real_opendir(name);
