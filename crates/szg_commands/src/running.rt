@@ -16,9 +16,7 @@ use szg_io::{ReadAhead, Std};
 use szg_shown::{Above, ReadLine, write_results};
 use szg_verified::{VerificationAsked, run_verification};
 use szg_verify::Watcher as WalkWatcher;
-use szg_words::{
-    Clap, FolderWords, assumes_win, copies_of, meant_name, probe_of, verification_of,
-};
+use szg_words::{Clap, FolderWords, assumes_win, copies_of, meant_name, probe_of, verification_of};
 
 /// The words of the command line.
 pub fn words_given(rt: &(impl Env + AllocGlobal)) -> io::Result<Vec<String>> {

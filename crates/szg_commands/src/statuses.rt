@@ -25,7 +25,7 @@ pub fn no_words_status(rt: &impl Eprint, error: &io::Error) -> ExitCode
 }
 
 /// The status of an outcome, whose fault is printed on standard error; a device's where that fails.
-pub(crate) fn status_of(rt: &impl Eprint, outcome: &Outcome) -> ExitCode
+pub fn status_of(rt: &impl Eprint, outcome: &Outcome) -> ExitCode
     ensures status { (exit_status result ≡ status_of outcome.now) ⊎ (exit_status result ≡ 3) }
     // Where nothing is printed, nothing fails.
     ensures done { OnDone outcome.now (exit_status result ≡ 0) }
